@@ -1,0 +1,2 @@
+// Codes.
+pub mod checksum;
