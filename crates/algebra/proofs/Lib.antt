@@ -1,0 +1,5 @@
+pub mod Laws
+pub mod Solver
+pub mod Poly
+pub mod Residue
+pub mod Sealing

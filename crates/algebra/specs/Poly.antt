@@ -31,3 +31,7 @@ module _ {A : Type 0} (F : FieldOn A) where
 
   abbrev pub subP : List A → List A → List A
   subP p q = addP p (map (λ a. ⊖ a) q)
+
+  abbrev pub mulP : List A → List A → List A
+  mulP [] q = []
+  mulP (a ∷ p) q = addP (scaleP a q) (𝟘 ∷ mulP p q)
