@@ -12,10 +12,10 @@ use Rattle.algebra.proofs.Poly.{length-addP, length-scaleP, addP-addP, addP-ze
 
 module _ {S : Type 0} (F : FieldOn S) where
   open FieldOn F using (𝟘, 𝟙, add as _⊕_, mul as _⊗_, neg as ⊖_, zero-add)
+
   infixl 60 _⊕_
   infixl 70 _⊗_
   infix 80 ⊖_
-
   -- the top coefficient and the others
   pub length-rest : (a : S) (p : List S) → length (rest F (a ∷ p)) ≡ length p
   length-rest a [] = refl

@@ -6,7 +6,7 @@ use native.Mathlib.Omega.{arith}
 use lib.ListN.{length, replicate, length-replicate, length-reverse}
 use Rattle.algebra.specs.Field.{FieldOn}
 use Rattle.algebra.specs.Poly.{addP, subP}
-use Rattle.algebra.specs.Code.{Code, checks, one, residue-from, residue, Sound, seal}
+use Rattle.algebra.specs.Code.{Code, checks, one, residue-from, residue, Sound, seal, Seals}
 use Rattle.algebra.proofs.Poly.{length-subP, addP-zeros, zeros-addP, addP-subP, subP-addP}
 use Rattle.algebra.proofs.Residue.{length-one, length-residue-from, residue-append, residue-addP, residue-shifts}
 
@@ -27,19 +27,17 @@ module _ {S : Type 0} (F : FieldOn S) where
     pub length-residue : (row : List S) → length (residue F C row) ≡ checks C
     length-residue row = length-residue-from F (C .lower) (one F (checks C)) row (length-one F (checks C))
 
-    -- the residue of a row that ends in k symbols
+    -- the residue after k ZEROs more
     abbrev blank : List S → List S
-    blank row = residue F C (row ++ replicate (checks C) 𝟘)
+    blank row = residue-from F (C .lower) (residue F C row) (replicate (checks C) 𝟘)
 
     pub residue-sealed : (row cs : List S) → length cs ≡ checks C → residue F C (row ++ cs) ≡ addP F (blank row) (reverse cs)
     residue-sealed row cs e =
-        residue-append F (C .lower) (one F (checks C)) row cs
-        ∙ residue-checks (C .lower) (residue F C row) cs (length-residue row) e
-        ∙ ap (λ t. addP F t (reverse cs)) (sym (residue-append F (C .lower) (one F (checks C)) row (replicate (checks C) 𝟘)))
+        residue-append F (C .lower) (one F (checks C)) row cs ∙ residue-checks (C .lower) (residue F C row) cs (length-residue row) e
 
     module _ (target-length : length (C .target) ≡ checks C) where
       same-length : (row : List S) → length (blank row) ≡ length (C .target)
-      same-length row = length-residue (row ++ replicate (checks C) 𝟘) ∙ sym target-length
+      same-length row = length-residue-from F (C .lower) (residue F C row) (replicate (checks C) 𝟘) (length-residue row) ∙ sym target-length
 
       pub length-seal : (row : List S) → length (seal F C row) ≡ checks C
       length-seal row =
@@ -57,5 +55,8 @@ module _ {S : Type 0} (F : FieldOn S) where
           let l = length-reverse cs in
           sym (reverse-reverse cs)
           ∙ ap reverse (
-            sym (subP-addP F (blank row) (reverse cs) (length-residue (row ++ replicate (checks C) 𝟘) ∙ sym (l ∙ e)))
-            ∙ ap (λ t. subP F t (blank row)) (sym (residue-sealed row cs e) ∙ sound))
+          sym (subP-addP F (blank row) (reverse cs) (same-length row ∙ target-length ∙ sym (l ∙ e)))
+          ∙ ap (λ t. subP F t (blank row)) (sym (residue-sealed row cs e) ∙ sound))
+
+      pub seals : (row : List S) → Seals F C row (seal F C row)
+      seals row = record { as-many = length-seal row; sound = sealed-sound row; only = seal-only row }

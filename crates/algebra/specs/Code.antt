@@ -64,9 +64,18 @@ module _ {S : Type 0} (F : FieldOn S) where
     abbrev pub Sound : List S → Type 0
     Sound row = residue row ≡ C .target
 
-    -- what is missing to the target after k ZEROs, highest power first
+    -- the symbols that take the residue r to the target: what is missing to it after k ZEROs, highest power first
+    abbrev pub closing : List S → List S
+    closing r = reverse (subP F (C .target) (residue-from (C .lower) r (replicate (checks C) 𝟘)))
+
     abbrev pub seal : List S → List S
-    seal row = reverse (subP F (C .target) (residue (row ++ replicate (checks C) 𝟘)))
+    seal row = closing (residue row)
+
+    -- cs is a seal of the row, and there is no other
+    pub record Seals (row cs : List S) : Type 0 where
+      pub as-many : length cs ≡ checks C
+      pub sound : Sound (row ++ cs)
+      pub only : (ds : List S) → length ds ≡ checks C → Sound (row ++ ds) → ds ≡ cs
 
     -- the generator polynomial
     abbrev pub generator : List S

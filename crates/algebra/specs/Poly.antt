@@ -1,6 +1,7 @@
 -- Polynomials as lists of coefficients, lowest power first. Assumes nothing.
 use mathlib.Core.List.{List, [], _∷_, map}
-use Prim.Native.Nat.{ℕ, zero, suc}
+use Prim.Native.Nat.{ℕ}
+use lib.ListN.{getD}
 use Rattle.algebra.specs.Field.{FieldOn}
 
 module _ {A : Type 0} (F : FieldOn A) where
@@ -11,9 +12,7 @@ module _ {A : Type 0} (F : FieldOn A) where
   infix 80 ⊖_
   -- the coefficient of a power, ZERO past the list's end
   abbrev pub coeff : List A → ℕ → A
-  coeff [] n = 𝟘
-  coeff (a ∷ p) zero = a
-  coeff (a ∷ p) (suc n) = coeff p n
+  coeff p n = getD p n 𝟘
 
   -- the value at x
   abbrev pub eval : List A → A → A

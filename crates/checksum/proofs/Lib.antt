@@ -1,0 +1,4 @@
+pub mod Alike
+pub mod Feeds
+pub mod Fills
+pub mod Sizes
