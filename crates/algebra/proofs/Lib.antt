@@ -3,3 +3,5 @@ pub mod Solver
 pub mod Poly
 pub mod Residue
 pub mod Sealing
+pub mod Remainder
+pub mod Eval

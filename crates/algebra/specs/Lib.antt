@@ -1,3 +1,4 @@
 pub mod Field
 pub mod Poly
 pub mod Code
+pub mod Remainder
