@@ -5,3 +5,4 @@ pub mod Residue
 pub mod Sealing
 pub mod Remainder
 pub mod Eval
+pub mod Quadratic

@@ -2,3 +2,4 @@ pub mod Field
 pub mod Poly
 pub mod Code
 pub mod Remainder
+pub mod Pair
