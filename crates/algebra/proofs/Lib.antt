@@ -6,3 +6,5 @@ pub mod Sealing
 pub mod Remainder
 pub mod Eval
 pub mod Quadratic
+pub mod Cubic
+pub mod Carried

@@ -5,11 +5,12 @@ use Prim.Native.Nat.{ℕ, zero, suc, _+_, _≤_}
 use native.Mathlib.Omega.{arith}
 use lib.ListN.{length, replicate, length-append}
 use Rattle.algebra.specs.Field.{FieldOn}
-use Rattle.algebra.specs.Poly.{coeff, addP, scaleP, subP, mulP}
+use Rattle.algebra.specs.Poly.{coeff, eval, addP, scaleP, subP, mulP}
 use Rattle.algebra.specs.Code.{Code, checks, rest, top, modulo, one, residue-from, residue}
 use Rattle.algebra.specs.Remainder.{Remainder}
-use Rattle.algebra.proofs.Laws.{ring, add-zero, mul-one, add-cancel, sub-zero}
+use Rattle.algebra.proofs.Laws.{ring, add-zero, mul-one, mul-zero, add-cancel, sub-zero}
 use Rattle.algebra.proofs.Poly.{addP-assoc, addP-comm, coeff-addP, coeff-high, coeff-mulP, list-ext, mulP-zero, mulP-subP}
+use Rattle.algebra.proofs.Eval.{eval-addP, eval-mulP, eval-coeff}
 use Rattle.algebra.proofs.Residue.{length-rest, rest-top, length-modulo, length-one}
 
 module _ {S : Type 0} (F : FieldOn S) where
@@ -73,6 +74,15 @@ module _ {S : Type 0} (F : FieldOn S) where
   -- the row's polynomial has a leading 1, then the row's symbols, highest power first
   pub residue-remainder : {E : Type 0} (C : Code S E) → 1 ≤ checks C → (row : List S) → Remainder F (C .lower) (reverse (𝟙 ∷ row)) (residue F C row)
   residue-remainder C h row = remainder-from (C .lower) (𝟙 ∷ []) (one F (checks C)) row (remainder-one (C .lower) h)
+
+  -- a root of x^k + lower gives a polynomial and its remainder one value
+  pub eval-remainder : (lower p r : List S) (x : S) → Remainder F lower p r → eval F (monic lower) x ≡ 𝟘 → eval F p x ≡ eval F r x
+  eval-remainder lower p r x h root =
+      let above = mulP F (h .quotient) (monic lower) in
+      eval-coeff F p (addP F above r) x (h .splits)
+      ∙ eval-addP F above r x
+      ∙ ap (λ t. t ⊕ eval F r x) (eval-mulP F (h .quotient) (monic lower) x ∙ ap (λ t. eval F (h .quotient) x ⊗ t) root ∙ mul-zero F (eval F (h .quotient) x))
+      ∙ zero-add (eval F r x)
 
   coeff-monic : (lower : List S) → coeff F (monic lower) (length lower) ≡ 𝟙
   coeff-monic [] = refl

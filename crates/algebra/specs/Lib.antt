@@ -3,3 +3,4 @@ pub mod Poly
 pub mod Code
 pub mod Remainder
 pub mod Pair
+pub mod Triple
