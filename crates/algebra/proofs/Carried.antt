@@ -1,5 +1,5 @@
 -- A field on a type that stands one to one with a field's elements. Assumes nothing.
-use mathlib.Core.Path.{_≡_, refl, sym, ap, ap₂, _∙_}
+use mathlib.Core.Path.{_≡_, sym, ap, ap₂, _∙_}
 use Rattle.algebra.specs.Field.{FieldOn}
 
 module _ {A B : Type 0} (F : FieldOn A) (to : B → A) (from : A → B) (from-to : (b : B) → from (to b) ≡ b) (to-from : (a : A) → to (from a) ≡ a) where

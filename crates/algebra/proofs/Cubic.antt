@@ -3,7 +3,7 @@ use mathlib.Core.Path.{_≡_, refl, sym, ap, ap₂, _∙_}
 use mathlib.Core.List.{List, [], _∷_}
 use Rattle.algebra.specs.Field.{FieldOn, Lifts}
 use Rattle.algebra.specs.Triple.{Triple, each, plus, times}
-use Rattle.algebra.proofs.Laws.{mul-one, mul-ne-zero, sub-zero, neg-neg, mul-neg}
+use Rattle.algebra.proofs.Laws.{mul-one, mul-ne-zero, sub-zero}
 use Rattle.algebra.proofs.Solver.{normal, value, Expr, var, :0, :1, _:+_, _:*_, :-_, _:-_, v0, v1, v2, v3, v4, v5, v6, v7, solve}
 
 abbrev mk : {B : Type 0} → B → B → B → Triple B
@@ -11,23 +11,27 @@ mk a b c = record { c0 = a; c1 = b; c2 = c }
 
 abbrev x : Triple Expr
 x = mk v0 v1 v2
+
 abbrev y : Triple Expr
 y = mk v3 v4 v5
+
 abbrev z : Triple Expr
 z = mk v6 v7 (var 8)
+
 abbrev _+E_ : Triple Expr → Triple Expr → Triple Expr
 _+E_ = plus _:+_ _:*_
+
 abbrev _*E_ : Triple Expr → Triple Expr → Triple Expr
 _*E_ = times _:+_ _:*_
+
 infixl 60 _+E_
 infixl 70 _*E_
-
 module _ {A : Type 0} (F : FieldOn A) where
   open FieldOn F using (𝟘, 𝟙, add as _⊕_, mul as _⊗_, neg as ⊖_, inv, mul-inv, discrete, mul-comm, mul-assoc, one-ne-zero)
+
   infixl 60 _⊕_
   infixl 70 _⊗_
   infix 80 ⊖_
-
   pub solve₃ : (ρ : List A) (a b : Triple Expr) → normal (a .c0) ≡ normal (b .c0) → normal (a .c1) ≡ normal (b .c1) → normal (a .c2) ≡ normal (b .c2)
       → each (value F ρ) a ≡ each (value F ρ) b
   solve₃ ρ a b p q r = λ i. record { c0 = solve F ρ (a .c0) (b .c0) p i; c1 = solve F ρ (a .c1) (b .c1) q i; c2 = solve F ρ (a .c2) (b .c2) r i }
@@ -37,8 +41,8 @@ module _ {A : Type 0} (F : FieldOn A) where
 
   abbrev _*T_ : Triple A → Triple A → Triple A
   _*T_ = times _⊕_ _⊗_
-  infixl 70 _*T_
 
+  infixl 70 _*T_
   abbrev one : Triple A
   one = mk 𝟙 𝟘 𝟘
 
@@ -67,7 +71,7 @@ module _ {A : Type 0} (F : FieldOn A) where
         let r = slope v u in
         let t = inv (u ⊗ gap r) in
         let v-is : v ≡ ⊖ (u ⊗ r)
-              = sym (mul-one F v) ∙ ap (λ k. v ⊗ k) (sym (mul-inv u e)) ∙ solve F (v ∷ u ∷ inv u ∷ []) (v0 :* (v1 :* v2)) (:- (v1 :* (:- (v0 :* v2)))) refl in
+        = sym (mul-one F v) ∙ ap (λ k. v ⊗ k) (sym (mul-inv u e)) ∙ solve F (v ∷ u ∷ inv u ∷ []) (v0 :* (v1 :* v2)) (:- (v1 :* (:- (v0 :* v2)))) refl in
         ap (λ k. mk k u 𝟘 *T mk ((r ⊗ r ⊕ ⊖ 𝟙) ⊗ t) (r ⊗ t) t) v-is
         ∙ solve₃ (u ∷ r ∷ t ∷ []) (mk (:- (v0 :* v1)) v0 :0 *E mk ((v1 :* v1 :- :1) :* v2) (v1 :* v2) v2) (mk ((v0 :* (:1 :+ v1 :- v1 :* v1 :* v1)) :* v2) :0 :0) refl refl refl
         ∙ ap (λ k. mk k 𝟘 𝟘) (mul-inv (u ⊗ gap r) (mul-ne-zero F u (gap r) e (gap-ne r)))
@@ -98,14 +102,14 @@ module _ {A : Type 0} (F : FieldOn A) where
         let v = 𝟙 ⊕ ⊖ (p ⊗ q) in
         let l = linear v u (discrete u 𝟘) in
         let first : a *T mk (⊖ p ⊗ w) w 𝟘 ≡ mk v u 𝟘
-              = solve₃ (a .c0 ∷ a .c1 ∷ a .c2 ∷ w ∷ []) (x *E mk ((:- (v1 :* v3)) :* v3) v3 :0)
-                  (mk (v2 :* v3 :- (v1 :* v3) :* (v0 :* v3)) (v2 :* v3 :+ v0 :* v3 :- (v1 :* v3) :* (v1 :* v3)) ((v1 :* v3) :* (:1 :- v2 :* v3))) refl refl refl
-                ∙ ap (λ t. mk (t ⊕ ⊖ (p ⊗ q)) (t ⊕ q ⊕ ⊖ (p ⊗ p)) (p ⊗ (𝟙 ⊕ ⊖ t))) (mul-inv (a .c2) e)
-                ∙ ap (λ t. mk v u t) (solve F (p ∷ []) (v0 :* (:1 :- :1)) :0 refl) in
+        = solve₃ (a .c0 ∷ a .c1 ∷ a .c2 ∷ w ∷ []) (x *E mk ((:- (v1 :* v3)) :* v3) v3 :0)
+        (mk (v2 :* v3 :- (v1 :* v3) :* (v0 :* v3)) (v2 :* v3 :+ v0 :* v3 :- (v1 :* v3) :* (v1 :* v3)) ((v1 :* v3) :* (:1 :- v2 :* v3))) refl refl refl
+        ∙ ap (λ t. mk (t ⊕ ⊖ (p ⊗ q)) (t ⊕ q ⊕ ⊖ (p ⊗ p)) (p ⊗ (𝟙 ⊕ ⊖ t))) (mul-inv (a .c2) e)
+        ∙ ap (λ t. mk v u t) (solve F (p ∷ []) (v0 :* (:1 :- :1)) :0 refl) in
         -- u = 0 and v = 0 would make p a root
         let apart : u ≡ 𝟘 → ¬ (v ≡ 𝟘) = λ eu ev. irreducible p (sub-zero F _ _ (
-              solve F (p ∷ q ∷ []) (v0 :* v0 :* v0 :- (v0 :+ :1)) (:- (v0 :* (:1 :+ v1 :- v0 :* v0)) :- (:1 :- v0 :* v1)) refl
-              ∙ ap₂ (λ s t. ⊖ (p ⊗ s) ⊕ ⊖ t) eu ev ∙ solve F (p ∷ []) (:- (v0 :* :0) :- :0) :0 refl)) in
+        solve F (p ∷ q ∷ []) (v0 :* v0 :* v0 :- (v0 :+ :1)) (:- (v0 :* (:1 :+ v1 :- v0 :* v0)) :- (:1 :- v0 :* v1)) refl
+        ∙ ap₂ (λ s t. ⊖ (p ⊗ s) ⊕ ⊖ t) eu ev ∙ solve F (p ∷ []) (:- (v0 :* :0) :- :0) :0 refl)) in
         sym (assoc a (mk (⊖ p ⊗ w) w 𝟘) l) ∙ ap (λ t. t *T l) first ∙ linear-is v u (discrete u 𝟘) apart
 
     pub same : (a b : Triple A) → Dec (a .c0 ≡ b .c0) → Dec (a .c1 ≡ b .c1) → Dec (a .c2 ≡ b .c2) → Dec (a ≡ b)

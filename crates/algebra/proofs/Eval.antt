@@ -9,11 +9,11 @@ use Rattle.algebra.proofs.Poly.{coeff-subP}
 use Rattle.algebra.proofs.Solver.{:0, _:+_, _:*_, v0, v1, v2, v3, solve}
 
 module _ {A : Type 0} (F : FieldOn A) where
-  open FieldOn F using (𝟘, 𝟙, add as _⊕_, mul as _⊗_, neg as ⊖_, zero-add, add-neg)
+  open FieldOn F using (𝟘, add as _⊕_, mul as _⊗_, neg as ⊖_, zero-add, add-neg)
+
   infixl 60 _⊕_
   infixl 70 _⊗_
   infix 80 ⊖_
-
   pub eval-addP : (p q : List A) (x : A) → eval F (addP F p q) x ≡ eval F p x ⊕ eval F q x
   eval-addP [] q x = sym (zero-add (eval F q x))
   eval-addP (a ∷ p) [] x = sym (add-zero F (eval F (a ∷ p) x))
@@ -45,5 +45,5 @@ module _ {A : Type 0} (F : FieldOn A) where
   pub eval-coeff : (p q : List A) (x : A) → ((n : ℕ) → coeff F p n ≡ coeff F q n) → eval F p x ≡ eval F q x
   eval-coeff p q x h =
       sub-zero F (eval F p x) (eval F q x) (
-        sym (eval-subP p q x)
-        ∙ eval-zero (subP F p q) x (λ n. coeff-subP F p q n ∙ ap (λ t. t ⊕ ⊖ coeff F q n) (h n) ∙ add-neg (coeff F q n)))
+      sym (eval-subP p q x)
+      ∙ eval-zero (subP F p q) x (λ n. coeff-subP F p q n ∙ ap (λ t. t ⊕ ⊖ coeff F q n) (h n) ∙ add-neg (coeff F q n)))

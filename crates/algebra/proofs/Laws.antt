@@ -1,13 +1,13 @@
 -- The laws of a field with their first consequences, and the ring laws as one set for `simp`. Assumes nothing.
-use mathlib.Core.Path.{_≡_, refl, sym, ap, ap₂, _∙_}
+use mathlib.Core.Path.{_≡_, sym, ap, ap₂, _∙_}
 use Rattle.algebra.specs.Field.{FieldOn}
 
 module _ {A : Type 0} (F : FieldOn A) where
   open FieldOn F using (𝟘, 𝟙, add as _⊕_, mul as _⊗_, neg as ⊖_, inv, mul-inv, one-ne-zero)
+
   infixl 60 _⊕_
   infixl 70 _⊗_
   infix 80 ⊖_
-
   -- the record's laws by name, as a ruleset wants them
   pub add-assoc : (x y z : A) → x ⊕ y ⊕ z ≡ x ⊕ (y ⊕ z)
   add-assoc = F .add-assoc
@@ -75,9 +75,9 @@ module _ {A : Type 0} (F : FieldOn A) where
   pub neg-add-dist : (x y : A) → ⊖ (x ⊕ y) ≡ ⊖ x ⊕ ⊖ y
   neg-add-dist x y =
       sym (neg-unique (x ⊕ y) (⊖ x ⊕ ⊖ y) (
-        add-assoc x y (⊖ x ⊕ ⊖ y)
-        ∙ ap (λ t. x ⊕ t) (add-left-comm y (⊖ x) (⊖ y) ∙ ap (λ t. ⊖ x ⊕ t) (add-neg y) ∙ add-zero (⊖ x))
-        ∙ add-neg x))
+      add-assoc x y (⊖ x ⊕ ⊖ y)
+      ∙ ap (λ t. x ⊕ t) (add-left-comm y (⊖ x) (⊖ y) ∙ ap (λ t. ⊖ x ⊕ t) (add-neg y) ∙ add-zero (⊖ x))
+      ∙ add-neg x))
 
   pub mul-neg : (x y : A) → x ⊗ ⊖ y ≡ ⊖ (x ⊗ y)
   mul-neg x y = neg-unique (x ⊗ y) (x ⊗ ⊖ y) (sym (mul-add x y (⊖ y)) ∙ ap (λ t. x ⊗ t) (add-neg y) ∙ mul-zero x)

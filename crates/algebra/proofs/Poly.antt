@@ -6,14 +6,14 @@ use native.Mathlib.Omega.{arith}
 use lib.ListN.{length, replicate, length-map}
 use Rattle.algebra.specs.Field.{FieldOn}
 use Rattle.algebra.specs.Poly.{coeff, addP, scaleP, subP, mulP}
-use Rattle.algebra.proofs.Laws.{ring, add-zero, mul-zero, zero-mul, neg-zero, add-cancel}
+use Rattle.algebra.proofs.Laws.{ring, add-zero, mul-zero, zero-mul, neg-zero}
 
 module _ {A : Type 0} (F : FieldOn A) where
   open FieldOn F using (𝟘, 𝟙, add as _⊕_, mul as _⊗_, neg as ⊖_, zero-add, add-assoc, add-comm, add-neg)
+
   infixl 60 _⊕_
   infixl 70 _⊗_
   infix 80 ⊖_
-
   -- lengths
   pub length-addP : (p q : List A) → length q ≤ length p → length (addP F p q) ≡ length p
   length-addP [] [] h = refl

@@ -1,5 +1,5 @@
 -- Pairs over a field in which r² = p0 + p1 r has no solution are a field above it. Assumes nothing.
-use mathlib.Core.Path.{_≡_, refl, sym, ap, ap₂, _∙_}
+use mathlib.Core.Path.{_≡_, refl, sym, ap, _∙_}
 use mathlib.Core.List.{List, [], _∷_}
 use Rattle.algebra.specs.Field.{FieldOn, Lifts}
 use Rattle.algebra.specs.Pair.{Pair, both, plus, times}
@@ -27,13 +27,12 @@ _*E_ = times _:+_ _:*_ v6 v7
 
 infixl 60 _+E_
 infixl 70 _*E_
-
 module _ {A : Type 0} (F : FieldOn A) (p0 p1 : A) where
   open FieldOn F using (𝟘, 𝟙, add as _⊕_, mul as _⊗_, neg as ⊖_, inv, mul-inv, discrete, one-ne-zero)
+
   infixl 60 _⊕_
   infixl 70 _⊗_
   infix 80 ⊖_
-
   -- both parts of an equation by the solver
   pub solve₂ : (ρ : List A) (a b : Pair Expr) → normal (a .c0) ≡ normal (b .c0) → normal (a .c1) ≡ normal (b .c1) → both (value F ρ) a ≡ both (value F ρ) b
   solve₂ ρ a b e f = λ i. record { c0 = solve F ρ (a .c0) (b .c0) e i; c1 = solve F ρ (a .c1) (b .c1) f i }
@@ -66,26 +65,31 @@ module _ {A : Type 0} (F : FieldOn A) (p0 p1 : A) where
       where
         u : A
         u = inv (a .c1)
+
         r : A
         r = ⊖ (a .c0 ⊗ u)
+
         -- c1 = 0 leaves c0² = 0
         square : a .c1 ≡ 𝟘 → a .c0 ⊗ a .c0 ≡ 𝟘
         square f =
             solve F (a .c0 ∷ p0 ∷ p1 ∷ []) (v0 :* v0) (v0 :* v0 :+ v2 :* (v0 :* :0) :- v1 :* (:0 :* :0)) refl
             ∙ ap (λ t. norm (record { c0 = a .c0; c1 = t })) (sym f) ∙ e
+
         by₂ : a .c1 ≡ 𝟘 → Dec (a .c0 ≡ 𝟘) → ⊥
         by₂ f (yes g) = h (λ i. record { c0 = g i; c1 = f i })
         by₂ f (no g) = g (factor-zero F (a .c0) (a .c0) g (square f))
+
         -- else r = - c0 / c1 is a root
         root : ¬ (a .c1 ≡ 𝟘) → r ⊗ r ≡ p0 ⊕ p1 ⊗ r
         root f = sub-zero F (r ⊗ r) (p0 ⊕ p1 ⊗ r) (
             solve F (a .c0 ∷ u ∷ p0 ∷ p1 ∷ []) ((:- (v0 :* v1)) :* (:- (v0 :* v1)) :- (v2 :+ v3 :* (:- (v0 :* v1))))
-              ((v0 :* v1) :* (v0 :* v1) :+ v3 :* ((v0 :* v1) :* :1) :- v2 :* (:1 :* :1)) refl
+            ((v0 :* v1) :* (v0 :* v1) :+ v3 :* ((v0 :* v1) :* :1) :- v2 :* (:1 :* :1)) refl
             ∙ ap (λ t. norm (record { c0 = a .c0 ⊗ u; c1 = t })) (sym (mul-inv (a .c1) f))
             ∙ solve F (a .c0 ∷ a .c1 ∷ u ∷ p0 ∷ p1 ∷ [])
-                ((v0 :* v2) :* (v0 :* v2) :+ v4 :* ((v0 :* v2) :* (v1 :* v2)) :- v3 :* ((v1 :* v2) :* (v1 :* v2)))
-                ((v2 :* v2) :* (v0 :* v0 :+ v4 :* (v0 :* v1) :- v3 :* (v1 :* v1))) refl
+            ((v0 :* v2) :* (v0 :* v2) :+ v4 :* ((v0 :* v2) :* (v1 :* v2)) :- v3 :* ((v1 :* v2) :* (v1 :* v2)))
+            ((v2 :* v2) :* (v0 :* v0 :+ v4 :* (v0 :* v1) :- v3 :* (v1 :* v1))) refl
             ∙ ap (λ t. (u ⊗ u) ⊗ t) e ∙ mul-zero F (u ⊗ u))
+
         by : Dec (a .c1 ≡ 𝟘) → ⊥
         by (yes f) = by₂ f (discrete (a .c0) 𝟘)
         by (no f) = irreducible r (root f)
@@ -95,8 +99,8 @@ module _ {A : Type 0} (F : FieldOn A) (p0 p1 : A) where
     times-quotient a h =
         let k = inv (norm a) in
         solve₂ (a .c0 ∷ a .c1 ∷ k ∷ k ∷ k ∷ k ∷ p0 ∷ p1 ∷ [])
-          (x *E record { c0 = (v0 :+ v7 :* v1) :* v2; c1 = (:- v1) :* v2 })
-          (record { c0 = (v0 :* v0 :+ v7 :* (v0 :* v1) :- v6 :* (v1 :* v1)) :* v2; c1 = :0 }) refl refl
+        (x *E record { c0 = (v0 :+ v7 :* v1) :* v2; c1 = (:- v1) :* v2 })
+        (record { c0 = (v0 :* v0 :+ v7 :* (v0 :* v1) :- v6 :* (v1 :* v1)) :* v2; c1 = :0 }) refl refl
         ∙ ap (λ t. record { c0 = t; c1 = 𝟘 }) (mul-inv (norm a) (norm-ne-zero a h))
 
     unfoldable pub quadratic : FieldOn (Pair A)

@@ -1,7 +1,7 @@
 -- The residue of a row is the remainder of its polynomial, and a polynomial has one remainder. Assumes nothing.
 use mathlib.Core.Path.{_≡_, refl, sym, ap, ap₂, _∙_}
 use mathlib.Core.List.{List, [], _∷_, _++_, reverse, reverseAux}
-use Prim.Native.Nat.{ℕ, zero, suc, _+_, _≤_}
+use Prim.Native.Nat.{ℕ, zero, suc, _≤_}
 use native.Mathlib.Omega.{arith}
 use lib.ListN.{length, replicate, length-append}
 use Rattle.algebra.specs.Field.{FieldOn}
@@ -15,10 +15,10 @@ use Rattle.algebra.proofs.Residue.{length-rest, rest-top, length-modulo, lengt
 
 module _ {S : Type 0} (F : FieldOn S) where
   open FieldOn F using (𝟘, 𝟙, add as _⊕_, mul as _⊗_, neg as ⊖_, zero-add, add-neg)
+
   infixl 60 _⊕_
   infixl 70 _⊗_
   infix 80 ⊖_
-
   -- x^k + lower
   abbrev monic : List S → List S
   monic lower = lower ++ (𝟙 ∷ [])
@@ -40,16 +40,20 @@ module _ {S : Type 0} (F : FieldOn S) where
     where
       t : S
       t = top F (v ∷ r)
+
       m : List S
       m = modulo F lower (v ∷ r)
+
       above : List S
       above = mulP F (h .quotient) (monic lower)
+
       joined : addP F (mulP F (t ∷ h .quotient) (monic lower)) m ≡ addP F (v ∷ r) (𝟘 ∷ above)
       joined =
           addP-assoc F (scaleP F t (monic lower)) (𝟘 ∷ above) m
           ∙ ap (addP F (scaleP F t (monic lower))) (addP-comm F (𝟘 ∷ above) m)
           ∙ sym (addP-assoc F (scaleP F t (monic lower)) m (𝟘 ∷ above))
           ∙ ap (λ l. addP F l (𝟘 ∷ above)) (modulo-splits lower v r (h .size))
+
       split : (n : ℕ) → coeff F (v ∷ p) n ≡ coeff F (addP F (v ∷ r) (𝟘 ∷ above)) n
       split zero = sym (add-zero F v)
       split (suc n) = h .splits n ∙ ap (λ l. coeff F l n) (addP-comm F above r)
@@ -105,8 +109,8 @@ module _ {S : Type 0} (F : FieldOn S) where
   quotient-lowest lower a q h z =
       let g = monic lower in
       sym (coeff-mulP F a q g (length lower)
-        ∙ ap₂ (λ s t. a ⊗ s ⊕ t) (coeff-monic lower) (coeff-cons-zero (mulP F q g) (mulP-zero F q g z) (length lower))
-        ∙ simp ring)
+      ∙ ap₂ (λ s t. a ⊗ s ⊕ t) (coeff-monic lower) (coeff-cons-zero (mulP F q g) (mulP-zero F q g z) (length lower))
+      ∙ simp ring)
       ∙ h
 
   -- a multiple of x^k + lower that has no power from x^k on is a multiple by ZERO
@@ -120,22 +124,30 @@ module _ {S : Type 0} (F : FieldOn S) where
     where
       g : List S
       g = monic lower
+
       q : List S
       q = subP F (h .quotient) (k .quotient)
+
       left : ℕ → S
       left n = coeff F (mulP F (h .quotient) g) n
+
       right : ℕ → S
       right n = coeff F (mulP F (k .quotient) g) n
+
       sums : (n : ℕ) → left n ⊕ coeff F r n ≡ right n ⊕ coeff F s n
       sums n = sym (h .splits n ∙ coeff-addP F (mulP F (h .quotient) g) r n) ∙ k .splits n ∙ coeff-addP F (mulP F (k .quotient) g) s n
+
       high : (n : ℕ) → length lower ≤ n → left n ≡ right n
       high n le =
           let rn : coeff F r n ≡ 𝟘 = coeff-high F r n (omega (arith, h .size)) in
           let sn : coeff F s n ≡ 𝟘 = coeff-high F s n (omega (arith, k .size)) in
           sym (add-zero F (left n)) ∙ ap (λ t. left n ⊕ t) (sym rn) ∙ sums n ∙ ap (λ t. right n ⊕ t) sn ∙ add-zero F (right n)
+
       none : (n : ℕ) → coeff F q n ≡ 𝟘
       none = quotient-zero lower q (λ n le. mulP-subP F (h .quotient) (k .quotient) g n ∙ ap (λ t. t ⊕ ⊖ right n) (high n le) ∙ add-neg (right n))
+
       same-multiple : (n : ℕ) → left n ≡ right n
       same-multiple n = sub-zero F (left n) (right n) (sym (mulP-subP F (h .quotient) (k .quotient) g n) ∙ mulP-zero F q g none n)
+
       same : (n : ℕ) → coeff F r n ≡ coeff F s n
       same n = add-cancel F (left n) (coeff F r n) (coeff F s n) (sums n ∙ ap (λ t. t ⊕ coeff F s n) (sym (same-multiple n)))

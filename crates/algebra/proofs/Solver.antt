@@ -1,7 +1,7 @@
 -- Equations of commutative rings, by normal forms. Assumes nothing.
 use mathlib.Core.Path.{_≡_, refl, sym, ap, ap₂, subst, _∙_}
 use mathlib.Core.List.{List, [], _∷_}
-use mathlib.Core.Bool.{Bool, true, false, cond, _&&_, not}
+use mathlib.Core.Bool.{Bool, true, false, _&&_, not}
 use Prim.Native.Nat.{ℕ, zero, suc}
 use lib.Dec.{T, eqb, leb, eqb→eq}
 use Rattle.algebra.specs.Field.{FieldOn}
@@ -11,7 +11,6 @@ infixl 60 _:+_ _:-_
 infixl 70 _:*_
 infix 80 :-_
 infix 20 _by_
-
 pub data Expr : Type 0 where
   var : ℕ → Expr
   :0 :1 : Expr
@@ -80,8 +79,8 @@ abbrev pub insert : Term → List Term → List Term
 insert (s by m) [] = (s by m) ∷ []
 insert (s by m) ((t by n) ∷ p) =
     elim (same m n) [
-      true ↦ elim (agree s t) [ true ↦ (s by m) ∷ (t by n) ∷ p | false ↦ p ]
-    | false ↦ elim (before m n) [ true ↦ (s by m) ∷ (t by n) ∷ p | false ↦ (t by n) ∷ insert (s by m) p ]
+      | true ↦ elim (agree s t) [ true ↦ (s by m) ∷ (t by n) ∷ p | false ↦ p ]
+      | false ↦ elim (before m n) [ true ↦ (s by m) ∷ (t by n) ∷ p | false ↦ (t by n) ∷ insert (s by m) p ]
     ]
 
 abbrev pub sum : List Term → List Term → List Term
@@ -144,11 +143,11 @@ value F ρ (a :* b) = F .mul (value F ρ a) (value F ρ b)
 value F ρ (:- a) = F .neg (value F ρ a)
 
 module _ {A : Type 0} (F : FieldOn A) (ρ : List A) where
-  open FieldOn F using (𝟘, 𝟙, add as _⊕_, mul as _⊗_, neg as ⊖_, add-assoc, add-comm, zero-add, add-neg, mul-assoc, mul-comm, one-mul, mul-add)
+  open FieldOn F using (𝟘, 𝟙, add as _⊕_, mul as _⊗_, neg as ⊖_, add-assoc, zero-add, add-neg, mul-assoc, one-mul, mul-add)
+
   infixl 60 _⊕_
   infixl 70 _⊗_
   infix 80 ⊖_
-
   mono : Mono → A
   mono [] = 𝟙
   mono (v ∷ m) = at F ρ v ⊗ mono m
@@ -166,8 +165,8 @@ module _ {A : Type 0} (F : FieldOn A) (ρ : List A) where
   put-is v (w ∷ m) =
       let ih = put-is v m in
       elim (leb v w) as (λ b. mono (elim b [ true ↦ v ∷ w ∷ m | false ↦ w ∷ put v m ]) ≡ at F ρ v ⊗ (at F ρ w ⊗ mono m)) [
-        true ↦ refl
-      | false ↦ ap (λ t. at F ρ w ⊗ t) ih ∙ Laws.mul-left-comm F (at F ρ w) (at F ρ v) (mono m)
+        | true ↦ refl
+        | false ↦ ap (λ t. at F ρ w ⊗ t) ih ∙ Laws.mul-left-comm F (at F ρ w) (at F ρ v) (mono m)
       ]
 
   join-is : (m n : Mono) → mono (join m n) ≡ mono m ⊗ mono n
@@ -190,19 +189,22 @@ module _ {A : Type 0} (F : FieldOn A) (ρ : List A) where
     where
       goal : A
       goal = term (s by m) ⊕ (term (t by n) ⊕ poly p)
+
       by-agree : (b : Bool) → same m n ≡ true → agree s t ≡ b → poly (elim b [ true ↦ (s by m) ∷ (t by n) ∷ p | false ↦ p ]) ≡ goal
       by-agree true e f = refl
       by-agree false e f =
           sym (sym (add-assoc (term (s by m)) (term (t by n)) (poly p))
-            ∙ ap (λ x. x ⊕ poly p) (ap (λ k. signed F s (mono m) ⊕ signed F t (mono k)) (sym (same-eq m n e)) ∙ cancels s t (mono m) f)
-            ∙ zero-add (poly p))
+          ∙ ap (λ x. x ⊕ poly p) (ap (λ k. signed F s (mono m) ⊕ signed F t (mono k)) (sym (same-eq m n e)) ∙ cancels s t (mono m) f)
+          ∙ zero-add (poly p))
+
       by-before : poly (insert (s by m) p) ≡ term (s by m) ⊕ poly p → (b : Bool) → poly (elim b [ true ↦ (s by m) ∷ (t by n) ∷ p | false ↦ (t by n) ∷ insert (s by m) p ]) ≡ goal
       by-before ih true = refl
       by-before ih false = ap (λ x. term (t by n) ⊕ x) ih ∙ Laws.add-left-comm F (term (t by n)) (term (s by m)) (poly p)
+
       by-same : poly (insert (s by m) p) ≡ term (s by m) ⊕ poly p → (b : Bool) → same m n ≡ b → poly (elim b [
-          true ↦ elim (agree s t) [ true ↦ (s by m) ∷ (t by n) ∷ p | false ↦ p ]
+        | true ↦ elim (agree s t) [ true ↦ (s by m) ∷ (t by n) ∷ p | false ↦ p ]
         | false ↦ elim (before m n) [ true ↦ (s by m) ∷ (t by n) ∷ p | false ↦ (t by n) ∷ insert (s by m) p ]
-        ]) ≡ goal
+      ]) ≡ goal
       by-same ih true e = by-agree (agree s t) e refl
       by-same ih false e = by-before ih (before m n)
 
