@@ -1,5 +1,5 @@
 -- The laws of a field with their first consequences, and the ring laws as one set for `simp`. Assumes nothing.
-use mathlib.Core.Path.{_≡_, refl, sym, ap, ap₂, _∙_}
+use mathlib.Core.Path.{_≡_, sym, ap, ap₂, _∙_}
 use Rattle.algebra.specs.Field.{FieldOn}
 
 module _ {A : Type 0} (F : FieldOn A) where
@@ -95,6 +95,11 @@ module _ {A : Type 0} (F : FieldOn A) where
 
   pub inv-ne-zero : (x : A) → ¬ (x ≡ 𝟘) → ¬ (inv x ≡ 𝟘)
   inv-ne-zero x h e = one-ne-zero (sym (mul-inv x h) ∙ ap (λ t. x ⊗ t) e ∙ mul-zero x)
+
+  pub inv-unique : (x y : A) → x ⊗ y ≡ 𝟙 → y ≡ inv x
+  inv-unique x y e =
+      let ne : ¬ (x ≡ 𝟘) = λ z. one-ne-zero (sym e ∙ ap (λ t. t ⊗ y) z ∙ zero-mul y) in
+      sym (one-mul y) ∙ ap (λ t. t ⊗ y) (sym (mul-inv x ne) ∙ mul-comm x (inv x)) ∙ mul-assoc (inv x) x y ∙ ap (λ t. inv x ⊗ t) e ∙ mul-one (inv x)
 
   -- x - y = 0 gives x = y
   pub sub-zero : (x y : A) → x ⊕ ⊖ y ≡ 𝟘 → x ≡ y

@@ -3,3 +3,8 @@ pub mod Solver
 pub mod Poly
 pub mod Residue
 pub mod Sealing
+pub mod Remainder
+pub mod Eval
+pub mod Quadratic
+pub mod Cubic
+pub mod Carried

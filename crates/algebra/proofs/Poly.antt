@@ -6,7 +6,7 @@ use native.Mathlib.Omega.{arith}
 use lib.ListN.{length, replicate, length-map}
 use Rattle.algebra.specs.Field.{FieldOn}
 use Rattle.algebra.specs.Poly.{coeff, addP, scaleP, subP, mulP}
-use Rattle.algebra.proofs.Laws.{ring, add-zero, mul-zero, zero-mul, neg-zero, add-cancel}
+use Rattle.algebra.proofs.Laws.{ring, add-zero, mul-zero, zero-mul, neg-zero}
 
 module _ {A : Type 0} (F : FieldOn A) where
   open FieldOn F using (𝟘, 𝟙, add as _⊕_, mul as _⊗_, neg as ⊖_, zero-add, add-assoc, add-comm, add-neg)

@@ -6,15 +6,14 @@ use native.Mathlib.Omega.{arith}
 use lib.ListN.{length, replicate, length-append, length-replicate}
 use Rattle.algebra.specs.Field.{FieldOn}
 use Rattle.algebra.specs.Poly.{addP, scaleP}
-use Rattle.algebra.specs.Code.{Code, checks, rest, top, modulo, one, residue-from, residue}
+use Rattle.algebra.specs.Code.{rest, top, modulo, one, residue-from}
 use Rattle.algebra.proofs.Laws.{ring, neg-zero}
-use Rattle.algebra.proofs.Poly.{length-addP, length-scaleP, addP-addP, addP-zeros, zeros-addP, scaleP-zero, scaleP-sum}
+use Rattle.algebra.proofs.Poly.{length-addP, length-scaleP, addP-addP, addP-zeros, scaleP-zero, scaleP-sum}
 
 module _ {S : Type 0} (F : FieldOn S) where
-  open FieldOn F using (𝟘, 𝟙, add as _⊕_, mul as _⊗_, neg as ⊖_, zero-add)
+  open FieldOn F using (𝟘, add as _⊕_, neg as ⊖_, zero-add)
 
   infixl 60 _⊕_
-  infixl 70 _⊗_
   infix 80 ⊖_
   -- the top coefficient and the others
   pub length-rest : (a : S) (p : List S) → length (rest F (a ∷ p)) ≡ length p

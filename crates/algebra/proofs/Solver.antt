@@ -1,7 +1,7 @@
 -- Equations of commutative rings, by normal forms. Assumes nothing.
 use mathlib.Core.Path.{_≡_, refl, sym, ap, ap₂, subst, _∙_}
 use mathlib.Core.List.{List, [], _∷_}
-use mathlib.Core.Bool.{Bool, true, false, cond, _&&_, not}
+use mathlib.Core.Bool.{Bool, true, false, _&&_, not}
 use Prim.Native.Nat.{ℕ, zero, suc}
 use lib.Dec.{T, eqb, leb, eqb→eq}
 use Rattle.algebra.specs.Field.{FieldOn}
@@ -143,7 +143,7 @@ value F ρ (a :* b) = F .mul (value F ρ a) (value F ρ b)
 value F ρ (:- a) = F .neg (value F ρ a)
 
 module _ {A : Type 0} (F : FieldOn A) (ρ : List A) where
-  open FieldOn F using (𝟘, 𝟙, add as _⊕_, mul as _⊗_, neg as ⊖_, add-assoc, add-comm, zero-add, add-neg, mul-assoc, mul-comm, one-mul, mul-add)
+  open FieldOn F using (𝟘, 𝟙, add as _⊕_, mul as _⊗_, neg as ⊖_, add-assoc, zero-add, add-neg, mul-assoc, one-mul, mul-add)
 
   infixl 60 _⊕_
   infixl 70 _⊗_

@@ -1,3 +1,6 @@
 pub mod Field
 pub mod Poly
 pub mod Code
+pub mod Remainder
+pub mod Pair
+pub mod Triple
