@@ -1,6 +1,8 @@
 // An element of GF(32): a binary polynomial of degree below 5, whose coefficient of t^i is bit i.
 ghost use Prim.Native.Nat.{_<_};
+
 pub mod arithmetic;
+mod logarithms;
 
 #[derive(Clone, Copy, PartialEq, Eq, Debug)]
 pub struct Fe32 {
@@ -10,5 +12,6 @@ pub struct Fe32 {
 
 impl Fe32 {
     pub const ZERO: Fe32 = Fe32 { value: 0 };
+
     pub const ONE: Fe32 = Fe32 { value: 1 };
 }

@@ -20,7 +20,8 @@ returns-then-self-eq0 c =
     let x = c .args .self in
     let y = c .args .other in
     let zero : product (x .value) (y .value) ≡ 0 =
-        elim (c .then-self-eq0 .either)
-        [ inl e ↦ zero-product (x .value) (y .value) e (y .ok)
-        | inr e ↦ product-comm (x .value) (y .value) (x .ok) (y .ok) ∙ zero-product (y .value) (x .value) (e .1) (x .ok) ] in
+    elim (c .then-self-eq0 .either) [
+      | inl e ↦ zero-product (x .value) (y .value) e (y .ok)
+      | inr e ↦ product-comm (x .value) (y .value) (x .ok) (y .ok) ∙ zero-product (y .value) (x .value) (e .1) (x .ok)
+    ] in
     fe-path _ _ (sym zero)

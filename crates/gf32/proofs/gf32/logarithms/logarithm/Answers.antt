@@ -1,5 +1,5 @@
 use Rattle.gf32.proofs.Logarithms.{log-lt, power-log}
-use Rattle.gf32.proofs.gf32.arithmetic.logarithm.Needs as need
+use Rattle.gf32.proofs.gf32.logarithms.logarithm.Needs as need
 
 pub returns : need.returns
 returns c =

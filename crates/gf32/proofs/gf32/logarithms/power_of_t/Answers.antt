@@ -1,5 +1,5 @@
 use Rattle.gf32.proofs.Logarithms.{listed-lt, listed-power}
-use Rattle.gf32.proofs.gf32.arithmetic.power_of_t.Needs as need
+use Rattle.gf32.proofs.gf32.logarithms.power_of_t.Needs as need
 
 pub ghost-result : need.ghost-result
 ghost-result c = (listed-lt (c .args .exponent) (c .pre), tt)
