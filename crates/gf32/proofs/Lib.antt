@@ -1,0 +1,3 @@
+pub mod Logarithms
+pub mod Cyclic
+pub mod Refusals

@@ -1,0 +1,2 @@
+// The field of 32 elements.
+pub mod gf32;
