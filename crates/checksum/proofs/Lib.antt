@@ -1,4 +1,5 @@
 pub mod Alike
 pub mod Feeds
 pub mod Fills
+pub mod FinishLaws
 pub mod Sizes
