@@ -4,6 +4,7 @@ ghost use mathlib.Core.List.{_∷_, reverse};
 ghost use mathlib.Core.Path.{_≡_};
 ghost use Rattle.algebra.specs.Code.{checks, modulo, one, residue, residue-from, closing, seal, Sound, Seals};
 ghost use Rattle.algebra.specs.Poly.{subP};
+ghost use Rattle.algebra.specs.Remainder.{Remainder};
 ghost use Rattle.checksum.specs.Engine.{held, padded};
 ghost use Rattle.std.specs.Orderings.{Decides};
 use crate::checksum::Checksum;
@@ -51,10 +52,13 @@ impl<C: Checksum> Engine<C> {
         }
     }
 
-    /// The engine after a whole row.
+    /// The engine after a whole row. Its residue is the remainder, by the generator polynomial, of the polynomial that a
+    /// leading 1 and the row's symbols make, highest power first.
     pub fn of_row(row: &[C::SymbolField]) -> Self
-        ensures { λ r. ⌜ held (C·Checksum .code) (r .entries) ≡ residue (SymbolField·Field .field) (C·Checksum .code) (now (row .entry)) ⌝ }
+        ensures residue { λ r. ⌜ held (C·Checksum .code) (r .entries) ≡ residue (SymbolField·Field .field) (C·Checksum .code) (now (row .entry)) ⌝ }
+        ensures remainder { λ r. ⌜ Remainder (SymbolField·Field .field) (C·Checksum .code .lower) (reverse (SymbolField·Field .field .𝟙 ∷ now (row .entry))) (held (C·Checksum .code) (r .entries)) ⌝ }
     {
+        C::laws();
         let mut engine = Self::new();
         engine.input_row(row);
         engine

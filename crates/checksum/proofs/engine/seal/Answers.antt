@@ -17,6 +17,6 @@ returns g c =
     let F = g .SymbolField·Field .field in
     let code = g .C·Checksum .code in
     record {
-      checks = c .closing .ensures ∙ ap (λ r. padded F (closing F code r)) (c .of-row .ensures);
+      checks = c .closing .ensures ∙ ap (λ r. padded F (closing F code r)) (c .of-row .ensures .residue);
       seals = seals F code (c .laws .ensures .lawful .target-length) (c .args .row .now);
     }
