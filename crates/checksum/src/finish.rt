@@ -6,6 +6,10 @@ use gf32::gf32::arithmetic::Fe32Field;
 use gf32::gf32::arithmetic::Fe32OverItself;
 use gf32::gf32::Fe32;
 
+const CHECKSUM_LENGTH: usize = 4;
+const CODE_LENGTH: usize = 31;
+const ROOT_EXPONENTS: (usize, usize) = (1, 4);
+
 /// The name of the finish code. It has no value: a code is an argument of type.
 pub enum Finish {}
 
@@ -16,7 +20,7 @@ pub impl Checksum for Finish as FinishChecksum {
     ghost code = { finish };
 
     fn checksum_length() -> usize {
-        4
+        CHECKSUM_LENGTH
     }
 
     // x^4 + 30 x^3 + 7 x^2 + 24 x + 19
@@ -43,11 +47,11 @@ pub impl Checksum for Finish as FinishChecksum {
     }
 
     fn root_exponents() -> (usize, usize) {
-        (1, 4)
+        ROOT_EXPONENTS
     }
 
     fn code_length() -> usize {
-        31
+        CODE_LENGTH
     }
 
     fn laws() {}
