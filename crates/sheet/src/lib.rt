@@ -1,0 +1,2 @@
+// What crews type and what is written for them: characters, a boat's line, and rows in groups of four.
+pub mod characters;
