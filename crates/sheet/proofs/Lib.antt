@@ -1,1 +1,2 @@
+pub mod EightSymbols
 pub mod ReadBack

@@ -1,1 +1,3 @@
 pub mod Characters
+pub mod Faults
+pub mod Lines
