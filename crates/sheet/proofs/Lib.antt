@@ -1,2 +1,3 @@
 pub mod EightSymbols
+pub mod Placing
 pub mod ReadBack
