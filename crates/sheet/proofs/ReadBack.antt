@@ -39,8 +39,8 @@ all-32 Upper = refl
 pub reads-back : (case : Case) (v : ℕ) → v < 32 → characterOf (inCase case (getD alphabet v 0)) ≡ Symbol v
 reads-back case v h =
     decides-below-and (λ k. says k (readsBack case k)) (λ k. readsBack case k ≡ Symbol k) (allBelow case)
-      (λ k. (says-so k (readsBack case k), λ e. ap (says k) e ∙ eq-eqb k k refl))
-      refl (λ _. refl) 32 .0 (all-32 case) v h
+    (λ k. (says-so k (readsBack case k), λ e. ap (says k) e ∙ eq-eqb k k refl))
+    refl (λ _. refl) 32 .0 (all-32 case) v h
 
 -- what writing answers, from the small character that was found at a place, and its case
 pub writes : (case : Case) (v i small byte : ℕ) → i ≡ v → (i < 32) × ((d : ℕ) → small ≡ getD alphabet i d) → byte ≡ inCase case small → (Some byte ≡ written case v) × (characterOf byte ≡ Symbol v)

@@ -1,7 +1,8 @@
 // A sealed row as text: twelve symbols in groups of four.
 ghost use mathlib.Core.Path.{_≡_};
 ghost use Rattle.sheet.specs.Groups.{inGroups};
-use crate::characters::{Case, write_character};
+use crate::characters::Case;
+use crate::characters::write_character;
 
 /// Writes a row in three groups of four, with a space between two groups. A number above 31 stands for no symbol, and is
 /// written as a question mark.

@@ -1,7 +1,14 @@
 // A boat's line: eight symbols for boat and time, in one case, with spaces wherever the crew likes.
+ghost use lib.ListN.{getD};
 ghost use mathlib.Core.Path.{_≡_};
+ghost use Prim.Native.Nat.{ℕ, _<_};
 ghost use Rattle.sheet.specs.Lines.{boatLine, firstFault, ifEight, lineCase, symbolsOf, wrong};
-use crate::characters::{Case, CasePartialEq, Character, letter_case, read_character};
+ghost use Rattle.std.specs.Vec.{made};
+use crate::characters::Case;
+use crate::characters::CasePartialEq;
+use crate::characters::Character;
+use crate::characters::letter_case;
+use crate::characters::read_character;
 use crate::fault::LineFault;
 
 /// What a boat's crew typed.
@@ -15,7 +22,8 @@ pub struct BoatLine {
 
 /// Reads a boat's line. The first bad byte refuses it, wherever it stands; then the number of its symbols may.
 pub fn read_boat_line(line: &[u8]) -> Result<BoatLine, LineFault>
-    ensures { λ r. ⌜ r ≡ boatLine (now (line .entry)) ⌝ }
+    ensures value { λ r. ⌜ r ≡ boatLine (now (line .entry)) ⌝ }
+    ensures below { λ r. ⌜ made r (λ boat. (k : ℕ) → getD (boat .symbols) k 0 < 32) ⌝ }
 {
     let case = line_case(line);
     if let Some(fault) = first_fault(line, case) {
