@@ -1,11 +1,10 @@
 -- Symbols that are put into an array of eight, one after another: what stands there, with those to come, are all.
-use Prim.Native.Nat.{ℕ, suc, _+_, _<_, _≤_}
+use Prim.Native.Nat.{ℕ, _+_, _<_, _≤_}
 use mathlib.Core.Path.{_≡_, refl, ap, sym, _∙_}
 use mathlib.Core.List.{List, [], _∷_, _++_}
 use native.Mathlib.Omega.{arith}
 use lib.Dec.{eqb}
 use lib.ListN.{length, getD, take, drop, set}
-use Rattle.std.specs.declared.option.Option.{Option}
 use Rattle.std.specs.declared.option.Option.the-variants.{Some, None}
 use Rattle.std.proofs.shelf.Lists.{append-assoc, append-nil, at-drop-more, at-drop-all, length-append, length-take-le, take-all, take-more-set}
 use Rattle.std.proofs.shelf.Tests.{cond-true, cond-false, eq-eqb, ne-eqb}

@@ -1,12 +1,10 @@
 -- Twelve characters that are put among spaces one by one, each a place further for each whole group before it.
-use Prim.Native.Nat.{ℕ, zero, suc, _+_, _/_, _<_}
-use mathlib.Core.Path.{_≡_, refl, ap, sym, _∙_}
-use mathlib.Core.List.{List, [], _∷_, map}
+use Prim.Native.Nat.{ℕ, zero, suc, _+_, _/_}
+use mathlib.Core.Path.{_≡_, refl, ap, sym}
+use mathlib.Core.List.{List}
 use native.Mathlib.Numerals.{add-one}
 use lib.ListN.{length, getD, set, replicate}
-use Rattle.std.specs.Iters.{counting}
 use Rattle.std.proofs.shelf.Counted.{fill-by-all}
-use Rattle.sheet.specs.Characters.{written}
 use Rattle.sheet.specs.Groups.{characterFor, inGroups}
 use Rattle.sheet.specs.declared.characters.Case.{Case}
 

@@ -6,7 +6,6 @@ use native.Mathlib.Omega.{arith}
 use lib.Dec.{eqb, ltb}
 use lib.ListN.{getD}
 use Rattle.std.specs.declared.option.Option.the-variants.{Some}
-use Rattle.std.specs.Orderings.{Decides}
 use Rattle.std.proofs.shelf.Tests.{eqb-true, eq-eqb, false≢true, cond-true, lt-ltb}
 use Rattle.std.proofs.shelf.Ways.{decides-below-and}
 use Rattle.sheet.specs.Characters.{alphabet, characterOf, inCase, written}

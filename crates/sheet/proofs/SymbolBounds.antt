@@ -9,7 +9,6 @@ use lib.ListN.{length, getD}
 use Rattle.sheet.specs.Characters.{alphabet, characterOf, symbolFrom}
 use Rattle.sheet.specs.Lines.{ifEight, symbolIn, symbolsOf}
 use Rattle.std.specs.Text.{lower}
-use Rattle.std.specs.declared.option.Option.{Option}
 use Rattle.std.specs.declared.option.Option.the-variants.{Some, None}
 use Rattle.sheet.specs.declared.characters.Character.{Character}
 use Rattle.sheet.specs.declared.characters.Character.the-variants.{Symbol, QuestionMark, Outside}

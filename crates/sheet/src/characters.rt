@@ -1,7 +1,6 @@
 // The 32 characters that stand for symbols. Each stands for its place in the set, in either case of a letter.
 ghost use mathlib.Core.Path.{_≡_};
 ghost use Rattle.sheet.specs.Characters.{caseOf, characterOf, written};
-ghost use Rattle.sheet.specs.declared.characters.Character.the-variants.{Symbol as asSymbol};
 ghost use Rattle.std.specs.Options.{Cases};
 
 /// What one byte says.
@@ -79,7 +78,7 @@ pub fn letter_case(byte: u8) -> Option<Case>
 /// The character of a symbol, none from 32 on. Reading it gives the symbol back.
 pub fn write_character(symbol: u8, case: Case) -> Option<u8>
     ensures value { λ r. ⌜ r ≡ written case symbol ⌝ }
-    ensures read_back { λ r. ⌜ Cases r (Unit {0}) (λ byte. characterOf byte ≡ asSymbol symbol) ⌝ }
+    ensures read_back { λ r. ⌜ Cases r (Unit {0}) (λ byte. characterOf byte ≡ Character.Symbol symbol) ⌝ }
 {
     let small = *SET.get(usize::from(symbol))?;
     match case {

@@ -47,6 +47,7 @@ fn line_case(line: &[u8]) -> Case
     Case::Lower
 }
 
+// What is wrong with the first bad byte of a line in this case.
 fn first_fault(line: &[u8], case: Case) -> Option<LineFault>
     ensures { λ r. ⌜ r ≡ firstFault case 0 (now (line .entry)) ⌝ }
 {
@@ -58,6 +59,7 @@ fn first_fault(line: &[u8], case: Case) -> Option<LineFault>
     None
 }
 
+// What is wrong with a byte: that it is outside the set comes before that it is in the other case.
 fn byte_fault(byte: u8, case: Case, place: usize) -> Option<LineFault>
     ensures { λ r. ⌜ r ≡ wrong case place byte ⌝ }
 {

@@ -3,7 +3,7 @@ use mathlib.Core.Path.{_≡_}
 use native.Mathlib.Omega.{arith}
 use Prim.Native.Nat.{_+_, _/_}
 use lib.ListN.{length, length-set}
-use Rattle.sheet.proofs.Placing.{placed, placed-more, placed-all}
+use Rattle.sheet.proofs.Placing.{placed-more, placed-all}
 use Rattle.sheet.proofs.groups.write_groups.Needs as need
 
 pub loop-i-again : need.loop-i-again

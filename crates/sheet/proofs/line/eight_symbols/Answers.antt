@@ -1,10 +1,5 @@
-use borrow.Author.Needs.{needs}
-use mathlib.Core.Path.{_≡_, ap, sym, _∙_}
-use mathlib.Core.List.{_++_}
 use native.Mathlib.Omega.{arith}
-use Prim.Native.Nat.{_+_}
-use lib.ListN.{length, take, drop, length-set}
-use Rattle.sheet.specs.Lines.{symbolsOf}
+use lib.ListN.{length-set}
 use Rattle.sheet.proofs.EightSymbols.{from-byte, from-end, no-symbol, a-ninth, one-more, too-few, all-eight}
 use Rattle.sheet.proofs.line.eight_symbols.Needs as need
 use Rattle.sheet.proofs.line.eight_symbols.Needs.{in-Symbol·else-held-eq8, in-rest}
