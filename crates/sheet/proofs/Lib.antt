@@ -1,0 +1,4 @@
+pub mod EightSymbols
+pub mod Placing
+pub mod ReadBack
+pub mod SymbolBounds

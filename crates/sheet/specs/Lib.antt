@@ -1,0 +1,4 @@
+pub mod Characters
+pub mod Faults
+pub mod Groups
+pub mod Lines
