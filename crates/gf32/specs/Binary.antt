@@ -1,30 +1,29 @@
 -- Binary polynomials modulo t^5 + t^3 + 1, as numbers below 32: bit i is the coefficient of t^i. Assumes nothing.
---   sum        bitXor, coefficient by coefficient
---   carryless  the product of a polynomial and another of k coefficients
---   reduced    the remainder of a polynomial of degree below k + 5
---   product    the product's remainder
---   power      a multiplied n times
+--   times-t  t × a
+--   times    a × b, for a b of k coefficients
+--   product  a × b
+--   power    a multiplied n times
+-- The sum is bitXor, coefficient by coefficient.
 use mathlib.Core.Bool.{cond}
-use Prim.Native.Nat.{ℕ, zero, suc, _+_, _*_, _/_, _%_, _^_}
+use Prim.Native.Nat.{ℕ, zero, suc, _*_, _/_, _%_}
 use lib.Bits.{bitXor}
-use lib.Dec.{eqb, leb}
+use lib.Dec.{leb}
 
 -- t^5 + t^3 + 1
 abbrev pub modulus : ℕ
 modulus = 41
 
--- a × b is b's lowest coefficient times a, and t times what a makes with the others
-abbrev pub carryless : ℕ → ℕ → ℕ → ℕ
-carryless zero a b = 0
-carryless (suc k) a b = bitXor (a * (b % 2)) (2 * carryless k a (b / 2))
+-- where a has t^4, the modulus is taken off
+abbrev pub times-t : ℕ → ℕ
+times-t a = cond (leb 16 a) (bitXor (2 * a) modulus) (2 * a)
 
--- where t^(k + 5) has a coefficient, t^k times the modulus is taken off
-abbrev pub reduced : ℕ → ℕ → ℕ
-reduced zero p = p
-reduced (suc k) p = reduced k (cond (leb (2 ^ (k + 5)) p) (bitXor p (modulus * 2 ^ k)) p)
+-- b's lowest coefficient times a, and the others times t × a
+abbrev pub times : ℕ → ℕ → ℕ → ℕ
+times zero a b = 0
+times (suc k) a b = bitXor (a * (b % 2)) (times k (times-t a) (b / 2))
 
 unfoldable pub product : ℕ → ℕ → ℕ
-product a b = reduced 4 (carryless 5 a b)
+product = times 5
 
 abbrev pub power : ℕ → ℕ → ℕ
 power a zero = 1

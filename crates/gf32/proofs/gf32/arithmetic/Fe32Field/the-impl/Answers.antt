@@ -1,4 +1,4 @@
-use mathlib.Core.Path.{ap, _∙_}
+use mathlib.Core.Path.{ap}
 use Rattle.gf32.specs.Gf32.{fe-path}
 use Rattle.gf32.specs.declared.gf32.Fe32.{Fe32}
 use Rattle.gf32.proofs.Cyclic.{gf32-cyclic, gf32-doubling}
