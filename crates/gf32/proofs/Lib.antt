@@ -1,3 +1,2 @@
 pub mod Logarithms
 pub mod Cyclic
-pub mod Refusals

@@ -1,4 +1,5 @@
 pub mod EightSymbols
+pub mod Listed
 pub mod Placing
 pub mod ReadBack
 pub mod SymbolBounds

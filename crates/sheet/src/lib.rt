@@ -3,3 +3,4 @@ pub mod characters;
 pub mod fault;
 pub mod groups;
 pub mod line;
+pub mod sealed;

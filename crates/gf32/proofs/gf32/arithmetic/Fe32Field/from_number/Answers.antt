@@ -3,7 +3,7 @@ use native.Mathlib.Nat.{mod-eq-of-lt}
 use native.Mathlib.Omega.{arith}
 use Rattle.std.specs.declared.option.Option.the-variants.{Some}
 use Rattle.gf32.specs.Gf32.{gf32-numbers, fe-path}
-use Rattle.gf32.proofs.Refusals.{numbered-below, numbered-above}
+use Rattle.field.proofs.Refusals.{numbered-below, numbered-above}
 use Rattle.gf32.proofs.gf32.arithmetic.Fe32Field.from_number.Needs as need
 
 pub returns-then-number-lt32 : need.returns-then-number-lt32

@@ -5,7 +5,7 @@ use Rattle.gf32.specs.Binary.{power}
 use Rattle.gf32.specs.Gf32.{gf32, fe-path}
 use Rattle.gf32.specs.declared.gf32.Fe32.{Fe32}
 use Rattle.gf32.proofs.Logarithms.{power-neg}
-use Rattle.gf32.proofs.Refusals.{inverse-of-zero, inverse-of-other}
+use Rattle.field.proofs.Refusals.{inverse-of-zero, inverse-of-other}
 use Rattle.gf32.proofs.gf32.arithmetic.Fe32Field.multiplicative_inverse.Needs as need
 
 pub returns : need.returns
