@@ -1,0 +1,36 @@
+// Powers of an element, its multiplicative order, and a cursor over its powers.
+ghost use mathlib.Core.Path.{_≡_};
+ghost use Rattle.algebra.specs.Field.{pow};
+ghost use Rattle.field.specs.Powers.{power};
+use crate::fault::FieldFault;
+use crate::field::Field;
+
+// x to the power n, by squaring.
+fn by_squaring<F: Field>(x: F, n: usize) -> F
+    ensures { λ r. ⌜ r ≡ pow field x n ⌝ }
+{
+    let mut result = F::one();
+    let mut base = x;
+    let mut left = n;
+    while left > 0 {
+        if left % 2 == 1 {
+            result = result.mul(base);
+        }
+        base = base.mul(base);
+        left /= 2;
+    }
+    result
+}
+
+/// x to the power n: ONE for the exponent 0, and the inverse's power for a negative one.
+pub fn powi<F: Field>(x: F, n: i64) -> Result<F, FieldFault>
+    ensures { λ r. ⌜ r ≡ power field x n ⌝ }
+{
+    if n == i64::MIN {
+        return Err(FieldFault::Exponent);
+    }
+    if n >= 0 {
+        return Ok(by_squaring(x, n as usize));
+    }
+    Ok(by_squaring(x.multiplicative_inverse()?, (-n) as usize))
+}
