@@ -1,2 +1,3 @@
+pub mod Exponents
 pub mod Multiples
 pub mod Squaring

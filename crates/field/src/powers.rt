@@ -1,7 +1,7 @@
 // Powers of an element, its multiplicative order, and a cursor over its powers.
 ghost use mathlib.Core.Path.{_≡_};
 ghost use Rattle.algebra.specs.Field.{pow};
-ghost use Rattle.field.specs.Powers.{power};
+ghost use Rattle.field.specs.Powers.{inverse-power, power};
 use crate::fault::FieldFault;
 use crate::field::Field;
 
@@ -22,15 +22,22 @@ fn by_squaring<F: Field>(x: F, n: usize) -> F
     result
 }
 
+// The inverse's power, refused for ZERO.
+fn inverse_power<F: Field>(x: F, n: usize) -> Result<F, FieldFault>
+    ensures { λ r. ⌜ r ≡ inverse-power field x n ⌝ }
+{
+    Ok(by_squaring(x.multiplicative_inverse()?, n))
+}
+
 /// x to the power n: ONE for the exponent 0, and the inverse's power for a negative one.
 pub fn powi<F: Field>(x: F, n: i64) -> Result<F, FieldFault>
     ensures { λ r. ⌜ r ≡ power field x n ⌝ }
 {
     if n == i64::MIN {
-        return Err(FieldFault::Exponent);
+        Err(FieldFault::Exponent)
+    } else if n < 0 {
+        inverse_power(x, -n as usize)
+    } else {
+        Ok(by_squaring(x, n as usize))
     }
-    if n >= 0 {
-        return Ok(by_squaring(x, n as usize));
-    }
-    Ok(by_squaring(x.multiplicative_inverse()?, (-n) as usize))
 }
