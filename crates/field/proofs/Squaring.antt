@@ -4,7 +4,7 @@ use mathlib.Core.Logic.{_⊎_, inl, inr}
 use Prim.Native.Nat.{ℕ, suc, _+_, _/_, _%_}
 use native.Mathlib.Omega.{arith}
 use Rattle.algebra.specs.Field.{FieldOn, pow}
-use Rattle.algebra.proofs.Orders.{mul-one, pow-add, pow-mul-base}
+use Rattle.algebra.proofs.Orders.{mul-one, pow-add, mul-pow}
 
 module _ {A : Type 0} (F : FieldOn A) where
   open FieldOn F using (𝟙, mul as _⊗_, mul-assoc, one-mul)
@@ -20,7 +20,7 @@ module _ {A : Type 0} (F : FieldOn A) where
   pub turns : (r x r′ x′ : A) (n : ℕ) → ((n % 2 ≡ 1) × (r′ ≡ r ⊗ x)) ⊎ ((n % 2 ≡ 0) × (r′ ≡ r)) → x′ ≡ x ⊗ x → r′ ⊗ pow F x′ (n / 2) ≡ r ⊗ pow F x n
   turns r x r′ x′ n came squared = ap (λ y. r′ ⊗ pow F y (n / 2)) squared ∙ ap (λ y. r′ ⊗ y) halves ∙ by came where
     halves : pow F (x ⊗ x) (n / 2) ≡ pow F x (n / 2 + n / 2)
-    halves = pow-mul-base F x x (n / 2) ∙ sym (pow-add F x (n / 2) (n / 2))
+    halves = mul-pow F x x (n / 2) ∙ sym (pow-add F x (n / 2) (n / 2))
     by : ((n % 2 ≡ 1) × (r′ ≡ r ⊗ x)) ⊎ ((n % 2 ≡ 0) × (r′ ≡ r)) → r′ ⊗ pow F x (n / 2 + n / 2) ≡ r ⊗ pow F x n
     by (inl (odd, is)) =
         let e : suc (n / 2 + n / 2) ≡ n = omega arith in
