@@ -1,3 +1,4 @@
 pub mod Orders
 pub mod Pigeonhole
 pub mod Generators
+pub mod Divisors
