@@ -2,10 +2,13 @@
 use mathlib.Core.Path.{_≡_, sym, ap, subst, subst⁻¹, _∙_}
 use mathlib.Core.List.{List, [], _∷_, _++_}
 use mathlib.Core.Bool.{Bool, true, false}
-use Prim.Native.Nat.{ℕ, zero, suc, _%_, _<_, _≤_}
+use Prim.Native.Nat.{ℕ, zero, suc, _+_, _%_, _<_, _≤_}
+use native.Mathlib.Numerals.{add-one}
 use native.Mathlib.Decide.{ℕ-discrete}
 use native.Mathlib.Omega.{arith}
 use lib.Dec.{eqb}
+use lib.ListN.{length, getD, drop, length-drop}
+use lib.Seq.{drop-cons}
 use Rattle.std.proofs.shelf.Tests.{eq-eqb}
 use Rattle.algebra.specs.Field.{FieldOn, Numbers, Units, Cyclic, pow, HasOrder, keep, divisors-to}
 use Rattle.algebra.proofs.Orders.{order-divides, has-order}
@@ -64,4 +67,30 @@ module _ {A : Type 0} (F : FieldOn A) (x : A) where
   finds-order N U C h =
       let one = pow-order F N U C x h in
       let found = has-order F x (U .order) (C .generates .positive) one in
-      subst⁻¹ Finds (C .divisors-are) (finds-to (U .order) (found .0) (found .2) (order-divides F x (found .0) (found .2) (U .order) one) (U .order) (found .1))
+      let m = found .0 in
+      let o = found .2 in
+      subst⁻¹ Finds (C .divisors-are) (finds-to (U .order) m o (order-divides F x m o (U .order) one) (U .order) (found .1))
+
+  -- a search that has come to the place i
+  pub record Searches (ds : List ℕ) (i : ℕ) : Type 0 where
+    pub within : i < length ds
+    pub finds : Finds (drop i ds)
+
+  not-empty : (ds : List ℕ) → Finds ds → 0 < length ds
+  not-empty [] f = absurd f
+  not-empty (d ∷ ds) f = omega arith
+
+  searches : (ds : List ℕ) (i : ℕ) → Finds (drop i ds) → Searches ds i
+  searches ds i f = record { within = omega (arith, length-drop i ds, not-empty (drop i ds) f); finds = f }
+
+  pub begins : (ds : List ℕ) → Finds ds → Searches ds 0
+  begins ds f = searches ds 0 f
+
+  here : (ds : List ℕ) (i : ℕ) → Searches ds i → Finds (getD ds i 0 ∷ drop (suc i) ds)
+  here ds i s = subst Finds (drop-cons ds i 0 (s .within)) (s .finds)
+
+  pub goes-on : (ds : List ℕ) (i : ℕ) → Searches ds i → ¬ (pow F x (getD ds i 0) ≡ F .𝟙) → Searches ds (i + 1)
+  goes-on ds i s h = rw add-one (searches ds (suc i) (here ds i s .1 h))
+
+  pub ends : (ds : List ℕ) (i : ℕ) → Searches ds i → pow F x (getD ds i 0) ≡ F .𝟙 → HasOrder F x (getD ds i 0)
+  ends ds i s e = here ds i s .0 e

@@ -1,7 +1,7 @@
 // Powers of an element, its multiplicative order, and a cursor over its powers.
 ghost use mathlib.Core.Path.{_≡_};
 ghost use Rattle.algebra.specs.Field.{pow};
-ghost use Rattle.field.specs.Powers.{inverse-power, power};
+ghost use Rattle.field.specs.Powers.{inverse-power, power, Ordered};
 use crate::fault::FieldFault;
 use crate::field::Field;
 
@@ -40,4 +40,23 @@ pub fn powi<F: Field>(x: F, n: i64) -> Result<F, FieldFault>
     } else {
         Ok(by_squaring(x, n as usize))
     }
+}
+
+/// The least positive exponent at which x's power is ONE: the first such divisor of the field's order. ZERO has none.
+pub fn multiplicative_order<F: Field>(x: F) -> Result<usize, FieldFault>
+    ensures { λ r. ⌜ Ordered field x r ⌝ }
+{
+    if x == F::zero() {
+        return Err(FieldFault::Zero);
+    }
+    let divisors = F::order_factors();
+    let mut i = 0;
+    let order = loop {
+        let divisor = divisors[i];
+        if by_squaring(x, divisor) == F::one() {
+            break divisor;
+        }
+        i += 1;
+    };
+    Ok(order)
 }
