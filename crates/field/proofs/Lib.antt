@@ -2,3 +2,4 @@ pub mod Exponents
 pub mod Multiples
 pub mod Squaring
 pub mod Equality
+pub mod Cursors

@@ -1,12 +1,16 @@
 // Powers of an element, its multiplicative order, and a cursor over its powers.
 ghost use mathlib.Core.Path.{_≡_};
+ghost use Prim.Native.Nat.{ℕ, suc, _+_, _-_};
 ghost use Rattle.algebra.specs.Field.{pow};
+ghost use Rattle.field.specs.Cursors.{tab, ahead, coming};
 ghost use Rattle.field.specs.Powers.{inverse-power, power, Ordered};
+use crate::cursor::Powers;
+use crate::cursor::PowersRange;
 use crate::fault::FieldFault;
 use crate::field::Field;
 
 // x to the power n, by squaring.
-fn by_squaring<F: Field>(x: F, n: usize) -> F
+pub(crate) fn by_squaring<F: Field>(x: F, n: usize) -> F
     ensures { λ r. ⌜ r ≡ pow field x n ⌝ }
 {
     let mut result = F::one();
@@ -59,4 +63,21 @@ pub fn multiplicative_order<F: Field>(x: F) -> Result<usize, FieldFault>
         i += 1;
     };
     Ok(order)
+}
+
+/// The powers of x, from ONE on.
+pub fn powers<F: Field>(x: F) -> Powers<F>
+    ensures { λ r. ⌜ ((k : ℕ) → ahead field r k ≡ pow field x k) ⌝ }
+{
+    Powers { base: x, next: F::one() }
+}
+
+/// The powers of x from the first exponent to the last; none if the first is above the last.
+pub fn powers_range<F: Field>(x: F, first: usize, last: usize) -> PowersRange<F>
+    ensures { λ r. ⌜ coming field r ≡ tab (last + 1 - first) (λ k. pow field x (first + k)) ⌝ }
+{
+    PowersRange {
+        powers: Powers { base: x, next: by_squaring(x, first) },
+        after: last.checked_sub(first),
+    }
 }
