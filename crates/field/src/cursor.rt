@@ -25,12 +25,19 @@ impl<F: Field> Powers<F> {
         power
     }
 
+    // Skips n powers.
+    fn skip(&mut self, n: usize)
+        ensures { λ _. ⌜ ((k : ℕ) → ahead field (now (self .exit)) k ≡ ahead field (now (self .entry)) (n + k)) ⌝ }
+    {
+        self.next = self.next.mul(by_squaring(self.base, n));
+    }
+
     /// The power after n others, which are skipped.
     pub fn nth(&mut self, n: usize) -> F
         ensures answer { λ r. ⌜ r ≡ ahead field (now (self .entry)) n ⌝ }
         ensures rest { λ _. ⌜ ((k : ℕ) → ahead field (now (self .exit)) k ≡ ahead field (now (self .entry)) (n + suc k)) ⌝ }
     {
-        self.next = self.next.mul(by_squaring(self.base, n));
+        self.skip(n);
         self.next()
     }
 }
@@ -52,5 +59,15 @@ impl<F: Field> PowersRange<F> {
         let after = self.after?;
         self.after = after.checked_sub(1);
         Some(self.powers.next())
+    }
+
+    /// The power after n others, which are skipped; none past the last.
+    pub fn nth(&mut self, n: usize) -> Option<F>
+        ensures answer { λ r. ⌜ r ≡ item (coming field (now (self .entry))) n ⌝ }
+        ensures rest { λ _. ⌜ coming field (now (self .exit)) ≡ drop (n + 1) (coming field (now (self .entry))) ⌝ }
+    {
+        self.after = self.after?.checked_sub(n);
+        self.powers.skip(n);
+        self.next()
     }
 }
