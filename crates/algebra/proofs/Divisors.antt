@@ -1,5 +1,5 @@
 -- An element's order among the divisors of a number at which its power is ONE. Assumes nothing.
-use mathlib.Core.Path.{_≡_, sym, ap, subst, subst⁻¹, _∙_}
+use mathlib.Core.Path.{_≡_, subst, subst⁻¹}
 use mathlib.Core.List.{List, [], _∷_, _++_}
 use mathlib.Core.Bool.{Bool, true, false}
 use Prim.Native.Nat.{ℕ, zero, suc, _+_, _%_, _<_, _≤_}
@@ -60,8 +60,9 @@ module _ {A : Type 0} (F : FieldOn A) (x : A) where
     finds-to zero h = absurd (omega (arith, o .positive))
     finds-to (suc k) h =
         elim (ℕ-discrete m (suc k)) [
-          yes e ↦ finds-at k e
-        | no e ↦ finds-keep (eqb (n % suc k) 0) (suc k) (divisors-to n k) (finds-to k (omega arith)) ]
+          | yes e ↦ finds-at k e
+          | no e ↦ finds-keep (eqb (n % suc k) 0) (suc k) (divisors-to n k) (finds-to k (omega arith))
+        ]
 
   pub finds-order : (N : Numbers A) (U : Units A) → Cyclic F N U → ¬ (x ≡ F .𝟘) → Finds (U .divisors)
   finds-order N U C h =

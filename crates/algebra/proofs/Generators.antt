@@ -1,18 +1,12 @@
--- The elements but ZERO are the powers of a generator, and the first divisor of their count at which an element's power is ONE
--- is the element's order. Assumes nothing.
-use mathlib.Core.Path.{_≡_, refl, sym, ap, subst, _∙_}
-use mathlib.Core.List.{List, [], _∷_, _++_}
-use mathlib.Core.Bool.{Bool, true, false}
-use mathlib.Core.Logic.{_⊎_, inl, inr}
-use Prim.Native.Nat.{ℕ, zero, suc, _+_, _*_, _%_, _<_, _≤_}
+-- The elements but ZERO are the powers of the generator, so that each has the power ONE at their count. Assumes nothing.
+use mathlib.Core.Path.{_≡_, sym, ap, subst, _∙_}
+use Prim.Native.Nat.{ℕ, suc, _<_}
 use native.Mathlib.Nat.{mul-comm}
-use native.Mathlib.Decide.{ℕ-discrete, decLt}
+use native.Mathlib.Decide.{decLt}
 use native.Mathlib.Omega.{arith}
-use lib.Dec.{eqb}
-use Rattle.std.proofs.shelf.Tests.{eq-eqb, cases-order}
-use Rattle.algebra.specs.Field.{FieldOn, Numbers, Units, Cyclic, pow, HasOrder, keep, divisors-to}
-use Rattle.algebra.proofs.Pigeonhole.{First, OneToOne, reaches}
-use Rattle.algebra.proofs.Orders.{one-pow, pow-mul, pow-ne-zero, order-ne-zero, powers-apart, order-divides, has-order}
+use Rattle.algebra.specs.Field.{FieldOn, Numbers, Units, Cyclic, pow}
+use Rattle.algebra.proofs.Pigeonhole.{OneToOne, reaches}
+use Rattle.algebra.proofs.Orders.{one-pow, pow-mul, pow-ne-zero, order-ne-zero, powers-apart}
 
 module _ {A : Type 0} (F : FieldOn A) (N : Numbers A) (U : Units A) (C : Cyclic F N U) where
   open FieldOn F using (𝟘, 𝟙)
@@ -37,12 +31,15 @@ module _ {A : Type 0} (F : FieldOn A) (N : Numbers A) (U : Units A) (C : Cyclic 
   listed-one : OneToOne listed (suc n) (suc n)
   unfolding listed at n g
   listed-one = record {
-      below = λ k h. subst (λ s. listed k < s) size (N .below (at (decLt k n) k));
-      apart = λ i j hi hj e. same i j hi hj (decLt i n) (decLt j n) (numbers-apart (at (decLt i n) i) (at (decLt j n) j) e) } where
+    below = λ k h. subst (λ s. listed k < s) size (N .below (at (decLt k n) k));
+    apart = λ i j hi hj e. same i j hi hj (decLt i n) (decLt j n) (numbers-apart (at (decLt i n) i) (at (decLt j n) j) e);
+  } where
     size : N .size ≡ suc n
     size = omega (arith, C .order-is)
+
     nonzero : (k : ℕ) → ¬ (pow F g k ≡ 𝟘)
     nonzero = pow-ne-zero F g (order-ne-zero F g n (C .generates))
+
     same : (i j : ℕ) → i < suc n → j < suc n → (d : Dec (i < n)) (e : Dec (j < n)) → at d i ≡ at e j → i ≡ j
     same i j hi hj (yes p) (yes q) e = powers-apart F g n (C .generates) i j p q e
     same i j hi hj (yes p) (no q) e = absurd (nonzero i e)
@@ -55,9 +52,9 @@ module _ {A : Type 0} (F : FieldOn A) (N : Numbers A) (U : Units A) (C : Cyclic 
       let small : N .number x < suc n = omega (arith, N .below x, C .order-is) in
       let found = reaches (suc n) listed listed-one (N .number x) small in
       by (found .place) (decLt (found .place) n) (numbers-apart (at (decLt (found .place) n) (found .place)) x (found .here)) where
-    by : (k : ℕ) (d : Dec (k < n)) → at d k ≡ x → (k : ℕ) × (x ≡ pow F (U .generator) k)
-    by k (yes _) e = (k, sym e)
-    by k (no _) e = absurd (h (sym e))
+        by : (k : ℕ) (d : Dec (k < n)) → at d k ≡ x → (k : ℕ) × (x ≡ pow F (U .generator) k)
+        by k (yes _) e = (k, sym e)
+        by k (no _) e = absurd (h (sym e))
 
   pub pow-order : (x : A) → ¬ (x ≡ 𝟘) → pow F x (U .order) ≡ 𝟙
   unfolding n g

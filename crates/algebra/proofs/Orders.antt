@@ -1,9 +1,8 @@
 -- Powers of an element, and its multiplicative order. Assumes nothing.
-use mathlib.Core.Path.{_≡_, refl, sym, ap, ap₂, subst, _∙_}
+use mathlib.Core.Path.{_≡_, refl, sym, ap, _∙_}
 use mathlib.Core.Logic.{_⊎_, inl, inr}
 use Prim.Native.Nat.{ℕ, zero, suc, _+_, _-_, _*_, _/_, _%_, _<_, _≤_}
 use native.Mathlib.Nat.{zero-add, suc-add, mul-zero, mul-suc, div-add-mod, mod-lt}
-use native.Mathlib.Decide.{ℕ-discrete}
 use native.Mathlib.Omega.{arith}
 use Rattle.std.proofs.shelf.Tests.{cases-order}
 use Rattle.algebra.specs.Field.{FieldOn, pow, HasOrder}
@@ -11,19 +10,16 @@ use Rattle.algebra.proofs.Pigeonhole.{First, first}
 
 module _ {A : Type 0} (F : FieldOn A) where
   open FieldOn F using (𝟘, 𝟙, add as _⊕_, mul as _⊗_, neg as ⊖_, inv, mul-assoc, one-mul, mul-inv, one-ne-zero)
+
   infixl 60 _⊕_
   infixl 70 _⊗_
   infix 80 ⊖_
-
   pub mul-one : (x : A) → x ⊗ 𝟙 ≡ x
   mul-one x = F .mul-comm x 𝟙 ∙ one-mul x
 
   pub one-pow : (n : ℕ) → pow F 𝟙 n ≡ 𝟙
   one-pow zero = refl
   one-pow (suc n) = one-mul (pow F 𝟙 n) ∙ one-pow n
-
-  pub pow-one : (x : A) → pow F x 1 ≡ x
-  pow-one x = mul-one x
 
   pub pow-add : (x : A) (a b : ℕ) → pow F x (a + b) ≡ pow F x a ⊗ pow F x b
   pow-add x zero b = ap (pow F x) (zero-add b) ∙ sym (one-mul (pow F x b))
@@ -83,6 +79,7 @@ module _ {A : Type 0} (F : FieldOn A) where
     powers-apart i j hi hj e = by (cases-order i j) where
       later : (a d : ℕ) → 0 < d → d < n → pow F x (a + d) ≡ pow F x a → ⊥
       later a d h k e = o .least d h k (pow-cycle x order-ne-zero a d e)
+
       by : (i ≡ j) ⊎ ((i < j) ⊎ (j < i)) → i ≡ j
       by (inl s) = s
       by (inr (inl h)) =
@@ -99,6 +96,7 @@ module _ {A : Type 0} (F : FieldOn A) where
           sym (one-mul (pow F x (k % n)))
           ∙ ap (λ y. y ⊗ pow F x (k % n)) (sym (pow-mul x n (k / n) ∙ ap (λ y. pow F y (k / n)) (o .returns) ∙ one-pow (k / n)))
           ∙ sym (pow-add x (n * (k / n)) (k % n)) ∙ ap (pow F x) (div-add-mod k n) ∙ e
+
       by : (k % n ≡ 0) ⊎ ((k % n < 0) ⊎ (0 < k % n)) → k % n ≡ 0
       by (inl z) = z
       by (inr (inl h)) = absurd (omega arith)
@@ -109,8 +107,9 @@ module _ {A : Type 0} (F : FieldOn A) where
   has-order x zero h e = absurd (omega arith)
   has-order x (suc n) h e =
       elim (first (λ k. pow F x (suc k) ≡ 𝟙) (λ k. F .discrete (pow F x (suc k)) 𝟙) (suc n)) [
-        inl f ↦ (suc (f .place), omega arith, record { positive = omega arith; returns = f .here; least = before f })
-      | inr none ↦ absurd (none n (omega arith) e) ] where
-    before : (f : First (λ k. pow F x (suc k) ≡ 𝟙) (suc n)) (k : ℕ) → 0 < k → k < suc (f .place) → ¬ (pow F x k ≡ 𝟙)
-    before f zero p s = absurd (omega arith)
-    before f (suc k) p s = f .before k (omega arith)
+        | inl f ↦ (suc (f .place), omega arith, record { positive = omega arith; returns = f .here; least = before f })
+        | inr none ↦ absurd (none n (omega arith) e)
+      ] where
+        before : (f : First (λ k. pow F x (suc k) ≡ 𝟙) (suc n)) (k : ℕ) → 0 < k → k < suc (f .place) → ¬ (pow F x k ≡ 𝟙)
+        before f zero p s = absurd (omega arith)
+        before f (suc k) p s = f .before k (omega arith)

@@ -1,5 +1,5 @@
 -- A one-to-one map of the numbers below n into themselves reaches each of them. Assumes nothing.
-use mathlib.Core.Path.{_≡_, refl, sym, _∙_, subst⁻¹}
+use mathlib.Core.Path.{_≡_, sym, _∙_, subst⁻¹}
 use mathlib.Core.Logic.{_⊎_, inl, inr}
 use Prim.Native.Nat.{ℕ, zero, suc, _<_}
 use native.Mathlib.Decide.{ℕ-discrete}
@@ -36,11 +36,13 @@ module _ (f : ℕ → ℕ) (m n y : ℕ) (one : OneToOne f m (suc n)) (small : y
   narrow-one : OneToOne narrow m n
   unfolding pick
   narrow-one = record {
-      below = λ k h. low k h (ℕ-discrete (f k) n) (one .below k h);
-      apart = λ i j hi hj e. one .apart i j hi hj (same i j hi hj (ℕ-discrete (f i) n) (ℕ-discrete (f j) n) e) } where
+    below = λ k h. low k h (ℕ-discrete (f k) n) (one .below k h);
+    apart = λ i j hi hj e. one .apart i j hi hj (same i j hi hj (ℕ-discrete (f i) n) (ℕ-discrete (f j) n) e);
+  } where
     low : (k : ℕ) → k < m → (d : Dec (f k ≡ n)) → f k < suc n → pick d y (f k) < n
     low k h (yes e) b = let miss : ¬ (f k ≡ y) = misses k h in omega arith
     low k h (no e) b = omega arith
+
     same : (i j : ℕ) → i < m → j < m → (d : Dec (f i ≡ n)) (e : Dec (f j ≡ n)) → pick d y (f i) ≡ pick e y (f j) → f i ≡ f j
     same i j hi hj (yes p) (yes q) e = p ∙ sym q
     same i j hi hj (yes p) (no q) e = absurd (misses j hj (sym e))
@@ -52,13 +54,14 @@ no-room zero f one = let b : f 0 < 0 = one .below 0 (omega arith) in omega arith
 no-room (suc n) f one =
     let last : f (suc n) < suc n = one .below (suc n) (omega arith) in
     let rest : OneToOne f (suc n) (suc n) =
-        record { below = λ k h. one .below k (omega arith); apart = λ i j hi hj e. one .apart i j (omega arith) (omega arith) e } in
+    record { below = λ k h. one .below k (omega arith); apart = λ i j hi hj e. one .apart i j (omega arith) (omega arith) e } in
     no-room n _ (narrow-one f (suc n) n (f (suc n)) rest last
-      (λ k h e. let same : k ≡ suc n = one .apart k (suc n) (omega arith) (omega arith) e in omega arith))
+    (λ k h e. let same : k ≡ suc n = one .apart k (suc n) (omega arith) (omega arith) e in omega arith))
 
 pub reaches : (n : ℕ) (f : ℕ → ℕ) → OneToOne f n n → (y : ℕ) → y < n → First (λ k. f k ≡ y) n
 reaches zero f one y h = absurd (omega arith)
 reaches (suc n) f one y h =
     elim (first (λ k. f k ≡ y) (λ k. ℕ-discrete (f k) y) (suc n)) [
-      inl found ↦ found
-    | inr misses ↦ absurd (no-room n _ (narrow-one f (suc n) n y one h misses)) ]
+      | inl found ↦ found
+      | inr misses ↦ absurd (no-room n _ (narrow-one f (suc n) n y one h misses))
+    ]

@@ -1,7 +1,7 @@
 -- A negative exponent of 64 bits, but for the least one: its negative's bits are its size. Assumes nothing.
-use mathlib.Core.Path.{_≡_, refl, sym, ap, _∙_}
+use mathlib.Core.Path.{_≡_, refl, ap, _∙_}
 use mathlib.Core.Bool.{true}
-use Prim.Native.Nat.{ℕ, suc, _+_, _^_, _<_}
+use Prim.Native.Nat.{suc, _+_, _^_, _<_}
 use native.Mathlib.Decide.{ℕ-discrete}
 use native.Mathlib.Omega.{arith}
 use borrow.Author.Tests.{ltb-true}
@@ -22,6 +22,6 @@ module _ {A : Type 0} (F : FieldOn A) (x : A) where
       let small : 0 + suc n < 2 ^ 63 = omega (arith, fits .sfits) in
       let size : natAbs (toZ w64 (0 + suc n)) ≡ suc n = ap natAbs (toZ-pos w64 (0 + suc n) small) ∙ omega arith in
       ap (inverse-power F x) size ∙ allowed (ℕ-discrete (suc n) (2 ^ 63)) where
-    allowed : (d : Dec (suc n ≡ 2 ^ 63)) → inverse-power F x (suc n) ≡ elim d [ yes _ ↦ Err Exponent | no _ ↦ inverse-power F x (suc n) ]
-    allowed (yes e) = absurd (omega arith)
-    allowed (no _) = refl
+        allowed : (d : Dec (suc n ≡ 2 ^ 63)) → inverse-power F x (suc n) ≡ elim d [ yes _ ↦ Err Exponent | no _ ↦ inverse-power F x (suc n) ]
+        allowed (yes e) = absurd (omega arith)
+        allowed (no _) = refl

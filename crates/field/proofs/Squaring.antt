@@ -8,8 +8,8 @@ use Rattle.algebra.proofs.Orders.{mul-one, pow-add, mul-pow}
 
 module _ {A : Type 0} (F : FieldOn A) where
   open FieldOn F using (𝟙, mul as _⊗_, mul-assoc, one-mul)
-  infixl 70 _⊗_
 
+  infixl 70 _⊗_
   pub starts : (r x : A) (n : ℕ) → r ≡ 𝟙 → r ⊗ pow F x n ≡ pow F x n
   starts r x n e = ap (λ y. y ⊗ pow F x n) e ∙ one-mul (pow F x n)
 
@@ -21,6 +21,7 @@ module _ {A : Type 0} (F : FieldOn A) where
   turns r x r′ x′ n came squared = ap (λ y. r′ ⊗ pow F y (n / 2)) squared ∙ ap (λ y. r′ ⊗ y) halves ∙ by came where
     halves : pow F (x ⊗ x) (n / 2) ≡ pow F x (n / 2 + n / 2)
     halves = mul-pow F x x (n / 2) ∙ sym (pow-add F x (n / 2) (n / 2))
+
     by : ((n % 2 ≡ 1) × (r′ ≡ r ⊗ x)) ⊎ ((n % 2 ≡ 0) × (r′ ≡ r)) → r′ ⊗ pow F x (n / 2 + n / 2) ≡ r ⊗ pow F x n
     by (inl (odd, is)) =
         let e : suc (n / 2 + n / 2) ≡ n = omega arith in

@@ -1,6 +1,6 @@
 // Powers of an element, its multiplicative order, and a cursor over its powers.
 ghost use mathlib.Core.Path.{_≡_};
-ghost use Prim.Native.Nat.{ℕ, suc, _+_, _-_};
+ghost use Prim.Native.Nat.{ℕ, _+_, _-_};
 ghost use Rattle.algebra.specs.Field.{pow};
 ghost use Rattle.field.specs.Cursors.{tab, ahead, coming};
 ghost use Rattle.field.specs.Powers.{inverse-power, power, Ordered};
@@ -69,7 +69,10 @@ pub fn multiplicative_order<F: Field>(x: F) -> Result<usize, FieldFault>
 pub fn powers<F: Field>(x: F) -> Powers<F>
     ensures { λ r. ⌜ ((k : ℕ) → ahead field r k ≡ pow field x k) ⌝ }
 {
-    Powers { base: x, next: F::one() }
+    Powers {
+        base: x,
+        next: F::one(),
+    }
 }
 
 /// The powers of x from the first exponent to the last; none if the first is above the last.
@@ -77,7 +80,10 @@ pub fn powers_range<F: Field>(x: F, first: usize, last: usize) -> PowersRange<F>
     ensures { λ r. ⌜ coming field r ≡ tab (last + 1 - first) (λ k. pow field x (first + k)) ⌝ }
 {
     PowersRange {
-        powers: Powers { base: x, next: by_squaring(x, first) },
+        powers: Powers {
+            base: x,
+            next: by_squaring(x, first),
+        },
         after: last.checked_sub(first),
     }
 }

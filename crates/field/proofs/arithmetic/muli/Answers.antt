@@ -1,5 +1,4 @@
 use mathlib.Core.Path.{sym, _∙_}
-use mir.Syntax.{w64}
 use Rattle.std.proofs.shelf.Signed.{toZ-ofZ}
 use Rattle.field.proofs.Multiples.{even-bits, odd-bits, times-even, times-odd}
 use Rattle.field.proofs.arithmetic.muli.Needs as need

@@ -1,6 +1,5 @@
 use mathlib.Core.Path.{_≡_, sym, _∙_}
 use mathlib.Core.Logic.{inl, inr}
-use Prim.Native.Nat.{_%_}
 use native.Mathlib.Omega.{arith}
 use Rattle.field.proofs.Squaring.{starts, turns, ends}
 use Rattle.field.proofs.powers.by_squaring.Needs as need
@@ -13,8 +12,9 @@ pub loop-left-again : need.loop-left-again
 loop-left-again g c =
     turns (g .F·Field .field) (c .loop-left .result) (c .loop-left .base) (c .if-left-eq1 .result) (c .mul-base .result) (c .loop-left .left)
     (elim (c .if-left-eq1 .came) [
-       then-left-eq1 w ↦ inl (w .if-left-eq1 .taken, w .result-is ∙ w .mul-result .ensures)
-     | else-left-eq1 w ↦ inr (omega (arith, w .if-left-eq1 .left), w .result-is) ])
+      | then-left-eq1 w ↦ inl (w .if-left-eq1 .taken, w .result-is ∙ w .mul-result .ensures)
+      | else-left-eq1 w ↦ inr (omega (arith, w .if-left-eq1 .left), w .result-is)
+    ])
     (c .mul-base .ensures)
     ∙ c .loop-left .inv
 

@@ -9,4 +9,5 @@ returns g c =
     let r = c .next .last .self in
     record {
       answer = answer-skipped F p q r (c .args .n) (c .skip .ensures) (c .next .result) (c .next .ensures .answer);
-      rest = rest-skipped F p q r (c .args .n) (c .skip .ensures) (c .next .ensures .rest) }
+      rest = rest-skipped F p q r (c .args .n) (c .skip .ensures) (c .next .ensures .rest);
+    }

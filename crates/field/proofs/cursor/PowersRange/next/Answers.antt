@@ -7,4 +7,5 @@ returns g c =
     let r = c .args .self .now in
     record {
       answer = answer-next F r (c .in-Continue-after .after) (c .in-Continue-after .was tt) (c .next .result) (c .next .ensures .answer);
-      rest = rest-next F r (c .in-Continue-after .after) (c .in-Continue-after .was tt) (c .next .last .self) (c .checked-sub-self .result) (c .checked-sub-self .ensures) (c .next .ensures .rest) }
+      rest = rest-next F r (c .in-Continue-after .after) (c .in-Continue-after .was tt) (c .next .last .self) (c .checked-sub-self .result) (c .checked-sub-self .ensures) (c .next .ensures .rest);
+    }

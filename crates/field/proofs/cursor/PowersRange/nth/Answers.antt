@@ -9,7 +9,8 @@ returns-in-Break-self g c =
     let r = c .args .self .now in
     record {
       answer = c .from-residual .ensures ∙ answer-none F r (c .in-Break-self .was tt) (c .args .n);
-      rest = rest-none F r (c .in-Break-self .was tt) (c .args .n + 1) }
+      rest = rest-none F r (c .in-Break-self .was tt) (c .args .n + 1);
+    }
 
 pub returns : need.returns
 returns g c =
@@ -19,4 +20,5 @@ returns g c =
     let skipped = coming-skipped F r (c .in-Continue-self .field-0) (c .in-Continue-self .was tt) (c .skip .last .self) (c .checked-sub-self .result) n (c .checked-sub-self .ensures) (c .skip .ensures) in
     record {
       answer = answer-nth F r _ (c .next .last .self) n skipped (c .next .result) (c .next .ensures .answer);
-      rest = rest-nth F r _ (c .next .last .self) n skipped (c .next .ensures .rest) }
+      rest = rest-nth F r _ (c .next .last .self) n skipped (c .next .ensures .rest);
+    }
