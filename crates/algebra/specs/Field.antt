@@ -1,7 +1,7 @@
 -- What a field is, over any type of elements, and what a finite one has beside. Assumes nothing.
 --   FieldOn A      sum, product, negative and inverse on A, with their laws
 --   Numbers A      elements as whole numbers below a size, one to one
---   multiple F x n x added up n times, and times F x n for any whole number n
+--   multiple F x n x added up n times, and multipleℤ F x n for any whole number n
 --   HasOrder F x n n is the least positive exponent at which x's power is ONE
 --   Units A        a generator of the elements but ZERO, their count and its divisors
 --   Cyclic         what is asked of them
@@ -56,9 +56,9 @@ multiple F x zero = F .𝟘
 multiple F x (suc n) = F .add x (multiple F x n)
 
 -- n times x: for a negative n the negative of what -n times x is
-abbrev pub times : {A : Type 0} → FieldOn A → A → ℤ → A
-times F x (pos n) = multiple F x n
-times F x (negsuc n) = F .neg (multiple F x (suc n))
+abbrev pub multipleℤ : {A : Type 0} → FieldOn A → A → ℤ → A
+multipleℤ F x (pos n) = multiple F x n
+multipleℤ F x (negsuc n) = F .neg (multiple F x (suc n))
 
 pub record HasOrder {A : Type 0} (F : FieldOn A) (x : A) (n : ℕ) : Type 0 where
   pub positive : 0 < n

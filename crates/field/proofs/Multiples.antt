@@ -6,7 +6,7 @@ use lib.IntN.{ℤ, pos, negsuc, natAbs, negℤ}
 use lib.Signed.{remZ}
 use mir.Syntax.{w64}
 use mir.Val.{ofZ}
-use Rattle.algebra.specs.Field.{FieldOn, Doubling, multiple, times}
+use Rattle.algebra.specs.Field.{FieldOn, Doubling, multiple, multipleℤ}
 
 -- the remainder's bits, as the code tests them, are 0 exactly for an even number
 pub even-bits : (n : ℤ) → ofZ w64 (remZ n (pos 2)) ≡ 0 → natAbs n % 2 ≡ 0
@@ -49,10 +49,10 @@ module _ {A : Type 0} (F : FieldOn A) (twice : Doubling F) (x : A) where
   multiple-odd : (n : ℕ) → n % 2 ≡ 1 → multiple F x n ≡ x
   multiple-odd n h = multiple-parity n ∙ ap (multiple F x) h ∙ add-zero
 
-  pub times-even : (n : ℤ) → natAbs n % 2 ≡ 0 → times F x n ≡ F .𝟘
-  times-even (pos n) h = multiple-even n h
-  times-even (negsuc n) h = ap (F .neg) (multiple-even (suc n) h) ∙ neg-zero
+  pub multipleℤ-even : (n : ℤ) → natAbs n % 2 ≡ 0 → multipleℤ F x n ≡ F .𝟘
+  multipleℤ-even (pos n) h = multiple-even n h
+  multipleℤ-even (negsuc n) h = ap (F .neg) (multiple-even (suc n) h) ∙ neg-zero
 
-  pub times-odd : (n : ℤ) → natAbs n % 2 ≡ 1 → times F x n ≡ x
-  times-odd (pos n) h = multiple-odd n h
-  times-odd (negsuc n) h = ap (F .neg) (multiple-odd (suc n) h) ∙ neg-same
+  pub multipleℤ-odd : (n : ℤ) → natAbs n % 2 ≡ 1 → multipleℤ F x n ≡ x
+  multipleℤ-odd (pos n) h = multiple-odd n h
+  multipleℤ-odd (negsuc n) h = ap (F .neg) (multiple-odd (suc n) h) ∙ neg-same

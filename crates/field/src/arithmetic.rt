@@ -1,6 +1,6 @@
 // Differences, quotients and multiples in any field, from the methods of its interface.
 ghost use mathlib.Core.Path.{_≡_};
-ghost use Rattle.algebra.specs.Field.{times};
+ghost use Rattle.algebra.specs.Field.{multipleℤ};
 ghost use Rattle.field.specs.Powers.{divided};
 use crate::fault::FieldFault;
 use crate::field::Field;
@@ -21,7 +21,7 @@ pub fn quotient<F: Field>(a: F, b: F) -> Result<F, FieldFault>
 
 /// n times x. Twice an element is ZERO, so that only n's last bit counts.
 pub fn muli<F: Field>(x: F, n: i64) -> F
-    ensures { λ r. ⌜ r ≡ times field x n ⌝ }
+    ensures { λ r. ⌜ r ≡ multipleℤ field x n ⌝ }
 {
     if n % 2 == 0 { F::zero() } else { x }
 }
