@@ -1,6 +1,7 @@
 -- What a field is, over any type of elements, and what a finite one has beside. Assumes nothing.
 --   FieldOn A      sum, product, negative and inverse on A, with their laws
 --   Numbers A      elements as whole numbers below a size, one to one
+--   multiple F x n x added up n times, and multipleℤ F x n for any whole number n
 --   HasOrder F x n n is the least positive exponent at which x's power is ONE
 --   Units A        a generator of the elements but ZERO, their count and its divisors
 --   Cyclic         what is asked of them
@@ -12,6 +13,7 @@ use mathlib.Core.List.{List, [], _∷_, _++_}
 use mathlib.Core.Bool.{Bool, true, false}
 use Prim.Native.Nat.{ℕ, zero, suc, _+_, _%_, _<_, _≤_}
 use lib.Dec.{eqb}
+use lib.IntN.{ℤ, pos, negsuc}
 use Rattle.std.specs.declared.option.Option.{Option}
 use Rattle.std.specs.declared.option.Option.the-variants.{Some, None}
 
@@ -47,6 +49,16 @@ pub record Numbers (A : Type 0) : Type 0 where
 abbrev pub pow : {A : Type 0} → FieldOn A → A → ℕ → A
 pow F x zero = F .𝟙
 pow F x (suc n) = F .mul x (pow F x n)
+
+-- x added up n times
+abbrev pub multiple : {A : Type 0} → FieldOn A → A → ℕ → A
+multiple F x zero = F .𝟘
+multiple F x (suc n) = F .add x (multiple F x n)
+
+-- n times x: for a negative n the negative of what -n times x is
+abbrev pub multipleℤ : {A : Type 0} → FieldOn A → A → ℤ → A
+multipleℤ F x (pos n) = multiple F x n
+multipleℤ F x (negsuc n) = F .neg (multiple F x (suc n))
 
 pub record HasOrder {A : Type 0} (F : FieldOn A) (x : A) (n : ℕ) : Type 0 where
   pub positive : 0 < n

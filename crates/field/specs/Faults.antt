@@ -2,7 +2,8 @@
 use Rattle.field.specs.declared.fault.Refusal.{Refusal}
 use Rattle.field.specs.declared.fault.Layer.the-variants.{Field}
 use Rattle.field.specs.declared.fault.FieldFault.{FieldFault}
-use Rattle.field.specs.declared.fault.FieldFault.the-variants.{Zero}
+use Rattle.field.specs.declared.fault.FieldFault.the-variants.{Zero, Exponent}
 
 abbrev pub told : FieldFault → Refusal
 told Zero = record { number = 12; layer = Field; place = 0 }
+told Exponent = record { number = 13; layer = Field; place = 0 }

@@ -1,2 +1,4 @@
 pub mod Faults
 pub mod Elements
+pub mod Powers
+pub mod Cursors

@@ -27,6 +27,8 @@ pub struct Refusal {
 pub enum FieldFault {
     /// ZERO has no inverse.
     Zero,
+    /// The least exponent of 64 bits has no negative among them.
+    Exponent,
 }
 
 impl FieldFault {
@@ -36,6 +38,11 @@ impl FieldFault {
         match self {
             FieldFault::Zero => Refusal {
                 number: 12,
+                layer: Layer::Field,
+                place: 0,
+            },
+            FieldFault::Exponent => Refusal {
+                number: 13,
                 layer: Layer::Field,
                 place: 0,
             },
