@@ -8,3 +8,4 @@ pub mod Eval
 pub mod Quadratic
 pub mod Cubic
 pub mod Carried
+pub mod HasOrder
