@@ -98,8 +98,8 @@ module _ {A : Type 0} (F : FieldOn A) where
         by less s (no z) = less (omega arith) (omega arith) (omega arith) (pow-rest x n k one e)
 
   -- if x's power is ONE at n and at no lesser divisor of n, n is x's order
-  pub order-by-divisors : (x : A) (n : ℕ) → 0 < n → pow F x n ≡ 𝟙 → All (λ d. d < n → ¬ (pow F x d ≡ 𝟙)) (divisors-to n n) → HasOrder F x n
-  order-by-divisors x n p one none =
-      let apart : (d : ℕ) → 0 < d → d < n → n % d ≡ 0 → ¬ (pow F x d ≡ 𝟙)
-      = λ d q h e. at-divisor (λ m. m < n → ¬ (pow F x m ≡ 𝟙)) n n none d q (omega arith) e h in
-      record { positive = p; returns = one; least = λ k q h. none-below x n one apart k k (omega arith) q h }
+  pub order-by-divisors : (x : A) (n : ℕ) → pow F x (suc n) ≡ 𝟙 → All (λ d. ¬ (pow F x d ≡ 𝟙)) (divisors-to (suc n) n) → HasOrder F x (suc n)
+  order-by-divisors x n one none =
+      let apart : (d : ℕ) → 0 < d → d < suc n → suc n % d ≡ 0 → ¬ (pow F x d ≡ 𝟙)
+      = λ d p h e. at-divisor (λ m. ¬ (pow F x m ≡ 𝟙)) (suc n) n none d p (omega arith) e in
+      record { positive = omega arith; returns = one; least = λ k p h. none-below x (suc n) one apart k k (omega arith) p h }

@@ -9,3 +9,4 @@ pub mod Quadratic
 pub mod Cubic
 pub mod Carried
 pub mod HasOrder
+pub mod CubicInverse
