@@ -3,7 +3,7 @@ use mathlib.Core.Path.{_≡_, refl, sym, ap, ap₂, _∙_}
 use mathlib.Core.List.{List, [], _∷_}
 use Rattle.algebra.specs.Field.{FieldOn}
 use Rattle.algebra.specs.Triple.{Triple, each, times}
-use Rattle.algebra.proofs.Laws.{factor-zero, inv-unique, sub-zero}
+use Rattle.algebra.proofs.Laws.{factor-zero, sub-zero}
 use Rattle.algebra.proofs.Solver.{Expr, :0, :1, _:+_, _:*_, :-_, _:-_, v0, v1, v2, v3, solve}
 use Rattle.algebra.proofs.Cubic.{solve₃, cubic}
 
@@ -44,7 +44,7 @@ module _ {A : Type 0} (F : FieldOn A) where
   abbrev lone : A → Triple A
   lone a = record { c0 = a; c1 = 𝟘; c2 = 𝟘 }
 
-  times-cofactors : (a : Triple A) (k : A) → times _⊕_ _⊗_ a (each (λ t. t ⊗ k) (cof a)) ≡ lone (det a ⊗ k)
+  pub times-cofactors : (a : Triple A) (k : A) → times _⊕_ _⊗_ a (each (λ t. t ⊗ k) (cof a)) ≡ lone (det a ⊗ k)
   times-cofactors a k =
       solve₃ F (a .c0 ∷ a .c1 ∷ a .c2 ∷ k ∷ []) (times _:+_ _:*_ x (each (λ t. t :* v3) cofactorsE)) (record { c0 = determinantE :* v3; c1 = :0; c2 = :0 }) refl refl refl
 
@@ -90,7 +90,3 @@ module _ {A : Type 0} (F : FieldOn A) where
         let whole : times _⊕_ _⊗_ a (cof a) ≡ lone 𝟘
         = solve₃ F (a .c0 ∷ a .c1 ∷ a .c2 ∷ []) (times _:+_ _:*_ x cofactorsE) (record { c0 = determinantE; c1 = :0; c2 = :0 }) refl refl refl ∙ ap lone e in
         cofactors-ne-zero a h (factor-zero (cubic F irreducible) a (cof a) h whole)
-
-    pub cofactors-inverse : (a : Triple A) (k : A) → det a ⊗ k ≡ 𝟙 → each (λ t. t ⊗ k) (cof a) ≡ cubic F irreducible .inv a
-    unfolding cubic
-    cofactors-inverse a k e = inv-unique (cubic F irreducible) a (each (λ t. t ⊗ k) (cof a)) (times-cofactors a k ∙ ap lone e)

@@ -2,8 +2,8 @@
 use mathlib.Core.Path.{_≡_, refl, sym, ap, subst, _∙_}
 use mathlib.Core.Bool.{Bool, true, false}
 use mathlib.Core.List.{List, [], _∷_, _++_}
-use Prim.Native.Nat.{ℕ, zero, suc, _+_, _*_, _/_, _%_, _^_, _<_, _≤_}
-use native.Mathlib.Nat.{zero-add, suc-add, mul-zero, mul-suc, div-add-mod, mod-lt, pow-suc}
+use Prim.Native.Nat.{ℕ, zero, suc, _+_, _*_, _/_, _%_, _<_, _≤_}
+use native.Mathlib.Nat.{zero-add, suc-add, mul-zero, mul-suc, div-add-mod, mod-lt}
 use native.Mathlib.Decide.{ℕ-discrete}
 use native.Mathlib.Omega.{arith}
 use lib.Dec.{eqb}
@@ -14,6 +14,10 @@ use Rattle.algebra.specs.Field.{FieldOn, HasOrder, pow, keep, divisors-to}
 abbrev pub All : (ℕ → Type 0) → List ℕ → Type 0
 All P [] = Unit {0}
 All P (d ∷ ds) = P d × All P ds
+
+pub all-map : (P Q : ℕ → Type 0) → ((n : ℕ) → P n → Q n) → (ns : List ℕ) → All P ns → All Q ns
+all-map P Q f [] h = tt
+all-map P Q f (n ∷ ns) h = (f n (h .0), all-map P Q f ns (h .1))
 
 all-front : (P : ℕ → Type 0) (ds es : List ℕ) → All P (ds ++ es) → All P ds
 all-front P [] es h = tt
@@ -56,10 +60,11 @@ module _ {A : Type 0} (F : FieldOn A) where
       ap (pow F x) (mul-suc a b) ∙ pow-add x (a * b) a ∙ mul-comm (pow F x (a * b)) (pow F x a)
       ∙ ap (λ y. pow F x a ⊗ y) (pow-mul x a b)
 
-  -- x to the power n, for n below 2^k
+  -- x to the power n, for n at most k
   unfoldable pub squaring : ℕ → A → ℕ → A
-  squaring zero x n = 𝟙
-  squaring (suc k) x n = let s = squaring k x (n / 2) in elim (eqb (n % 2) 0) [ true ↦ s ⊗ s | false ↦ x ⊗ (s ⊗ s) ]
+  squaring k x zero = 𝟙
+  squaring zero x (suc n) = 𝟙
+  squaring (suc k) x (suc n) = let s = squaring k x (suc n / 2) in elim (eqb (suc n % 2) 0) [ true ↦ s ⊗ s | false ↦ x ⊗ (s ⊗ s) ]
 
   square-is : (x s : A) (n : ℕ) → s ≡ pow F x n → s ⊗ s ≡ pow F x (n + n)
   square-is x s n e = ap (λ t. t ⊗ t) e ∙ sym (pow-add x n n)
@@ -74,11 +79,19 @@ module _ {A : Type 0} (F : FieldOn A) where
       let whole : suc (n / 2 + n / 2) ≡ n = omega arith in
       ap (λ y. x ⊗ y) (square-is x s (n / 2) e) ∙ ap (pow F x) whole
 
-  pub squaring-is-pow : (k : ℕ) (x : A) (n : ℕ) → n < 2 ^ k → squaring k x n ≡ pow F x n
+  squaring-is-pow : (k : ℕ) (x : A) (n : ℕ) → n ≤ k → squaring k x n ≡ pow F x n
   unfolding squaring
-  squaring-is-pow zero x n h = let z : n ≡ 0 = omega arith in ap (pow F x) (sym z)
-  squaring-is-pow (suc k) x n h =
-      squaring-step x (squaring k x (n / 2)) n (squaring-is-pow k x (n / 2) (omega (arith, pow-suc 2 k))) (eqb (n % 2) 0) refl
+  squaring-is-pow k x zero h = refl
+  squaring-is-pow zero x (suc n) h = absurd (omega arith)
+  squaring-is-pow (suc k) x (suc n) h =
+      squaring-step x (squaring k x (suc n / 2)) (suc n) (squaring-is-pow k x (suc n / 2) (omega arith)) (eqb (suc n % 2) 0) refl
+
+  -- x to the power n, by squaring
+  abbrev pub quick : A → ℕ → A
+  quick x n = squaring n x n
+
+  pub quick-is-pow : (x : A) (n : ℕ) → quick x n ≡ pow F x n
+  quick-is-pow x n = squaring-is-pow n x n (omega arith)
 
   -- x's power is ONE at what two such exponents leave
   pow-rest : (x : A) (n k : ℕ) → pow F x n ≡ 𝟙 → pow F x k ≡ 𝟙 → pow F x (n % k) ≡ 𝟙
