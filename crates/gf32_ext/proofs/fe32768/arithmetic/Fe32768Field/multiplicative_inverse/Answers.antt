@@ -11,8 +11,9 @@ pub returns-in-Break-scale : need.returns-in-Break-scale
 returns-in-Break-scale c =
     let x = c .args .self in
     let is : c .add-determinant .result ≡ determinant x = cc in
-    let p = err-from-errBy (c .from-residual .result) (c .from-residual .ensures .1) in
-    ?
+    let fault = c .in-Break-scale .field-0 .0 in
+    let err = err-from-errBy (c .from-residual .result) (c .from-residual .ensures .1) in
+    err .1 ∙ ap Err (err .2) ∙ sym (inverse-err gf32 gf32768 (c .add-determinant .result) x fault (λ z. determinant-zero x (sym is ∙ z)) (sym (c .in-Break-scale .ensures tt)))
 
 pub returns : need.returns
 returns c =
