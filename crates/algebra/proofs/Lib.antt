@@ -10,3 +10,4 @@ pub mod Cubic
 pub mod Carried
 pub mod HasOrder
 pub mod CubicInverse
+pub mod Computed

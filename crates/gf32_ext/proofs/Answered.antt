@@ -11,7 +11,7 @@ use Rattle.algebra.proofs.Laws.{zero-mul, inv-unique}
 use Rattle.field.specs.Elements.{inverse, numbered}
 use Rattle.field.specs.declared.fault.FieldFault.{FieldFault}
 use Rattle.field.specs.declared.fault.FieldFault.the-variants.{Zero}
-use Rattle.gf32.proofs.Refusals.{inverse-of-zero, inverse-of-other, numbered-below, numbered-above}
+use Rattle.field.proofs.Refusals.{inverse-of-zero, inverse-of-other, numbered-below, numbered-above}
 
 module _ {A : Type 0} (F : FieldOn A) where
   -- an answer is the other factor of ONE

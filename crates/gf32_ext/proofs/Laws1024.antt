@@ -1,21 +1,19 @@
 -- GF(1024) is cyclic, an element plus itself is ZERO, and lifting keeps sums and products. Assumes nothing.
-use mathlib.Core.Path.{_≡_, refl, ap, ap₂}
-use mathlib.Core.List.{List, [], _∷_}
-use Prim.Native.Nat.{ℕ}
-use lib.Dec.{lit<}
-use Rattle.algebra.specs.Field.{Cyclic, Doubling, HasOrder, Lifts, pow}
+use mathlib.Core.Path.{refl, ap, ap₂}
+use mathlib.Core.List.{[], _∷_}
+use Rattle.algebra.specs.Field.{Cyclic, Doubling, HasOrder, Lifts}
 use Rattle.algebra.specs.Pair.{Pair}
 use Rattle.algebra.proofs.Quadratic.{quadratic, quadratic-lifts}
 use Rattle.algebra.proofs.Carried.{carried}
 use Rattle.algebra.proofs.HasOrder.{squaring}
 use Rattle.gf32.specs.Binary.{product}
-use Rattle.gf32.specs.Gf32.{gf32, gf32-numbers, fe}
+use Rattle.gf32.specs.Gf32.{gf32, gf32-numbers}
 use Rattle.gf32.proofs.Cyclic.{gf32-doubling}
 use Rattle.gf32.specs.declared.gf32.Fe32.{Fe32}
 use Rattle.gf32_ext.specs.Irreducible.{no-square}
 use Rattle.gf32_ext.specs.Gf1024.{gf1024, gf1024-numbers, gf1024-units, fe1024, lift1024}
 use Rattle.gf32_ext.specs.declared.fe1024.Fe1024.{Fe1024}
-use Rattle.gf32_ext.proofs.Computed.{pow-is, order-is}
+use Rattle.algebra.proofs.Computed.{order-is}
 
 -- 1023 = 3 × 11 × 31
 pub generator-has-order-1023 : HasOrder gf1024 (gf1024-units .generator) 1023
@@ -36,15 +34,3 @@ lift1024-lifts =
     let up = quadratic-lifts gf32 (gf32 .𝟙) (gf32 .𝟙) no-square in
     let back : Pair Fe32 → Fe1024 = λ p. fe1024 (p .c0) (p .c1) in
     record { sums = λ x y. ap back (up .sums x y); products = λ x y. ap back (up .products x y); one-to-one = λ x y e. ap (λ (z : Fe1024). z .c0) e }
-
--- powers of 1 + 6 ζ
-abbrev pub one-six : Fe1024
-one-six = fe1024 (fe 1 (lit< tt)) (fe 6 (lit< tt))
-
-pub one-six-24 : pow gf1024 one-six 24 ≡ fe1024 (fe 12 (lit< tt)) (fe 24 (lit< tt))
-unfolding squaring gf1024 gf1024-numbers carried quadratic gf32 gf32-numbers product
-one-six-24 = pow-is gf1024 gf1024-numbers one-six (fe1024 (fe 12 (lit< tt)) (fe 24 (lit< tt))) 24 refl
-
-pub one-six-341 : pow gf1024 one-six 341 ≡ fe1024 (fe 1 (lit< tt)) (fe 1 (lit< tt))
-unfolding squaring gf1024 gf1024-numbers carried quadratic gf32 gf32-numbers product
-one-six-341 = pow-is gf1024 gf1024-numbers one-six (fe1024 (fe 1 (lit< tt)) (fe 1 (lit< tt))) 341 refl

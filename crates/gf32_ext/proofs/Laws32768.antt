@@ -1,7 +1,6 @@
 -- GF(32768) is cyclic, an element plus itself is ZERO, and lifting keeps sums and products. Assumes nothing.
-use mathlib.Core.Path.{_≡_, refl, ap}
-use mathlib.Core.List.{List, [], _∷_}
-use Prim.Native.Nat.{ℕ}
+use mathlib.Core.Path.{refl, ap}
+use mathlib.Core.List.{[], _∷_}
 use Rattle.algebra.specs.Field.{Cyclic, Doubling, HasOrder, Lifts}
 use Rattle.algebra.specs.Triple.{Triple}
 use Rattle.algebra.proofs.Cubic.{cubic, cubic-lifts}
@@ -14,7 +13,7 @@ use Rattle.gf32.specs.declared.gf32.Fe32.{Fe32}
 use Rattle.gf32_ext.specs.Irreducible.{no-cube}
 use Rattle.gf32_ext.specs.Gf32768.{gf32768, gf32768-numbers, gf32768-units, fe32768, fe32768-path, lift32768}
 use Rattle.gf32_ext.specs.declared.fe32768.Fe32768.{Fe32768}
-use Rattle.gf32_ext.proofs.Computed.{order-is}
+use Rattle.algebra.proofs.Computed.{order-is}
 
 -- 32767 = 7 × 31 × 151
 pub generator-has-order-32767 : HasOrder gf32768 (gf32768-units .generator) 32767

@@ -1,15 +1,17 @@
 -- GF(32768) over the struct itself, as triples over GF(32) with ζ³ = 1 + ζ. Assumes nothing.
---   gf32768           its operations, those of triples, with their laws
+--   gf32768           its operations with their laws
+--   gf32768-add       the sum is that of triples
+--   gf32768-mul       the product is that of triples
 --   gf32768-numbers   c0 + c1 ζ + c2 ζ² has the number c0 + 32 c1 + 1024 c2
 --   gf32768-units     a generator of the elements but ZERO
 --   lift32768         where an element of GF(32) stands in it
 use mathlib.Core.Path.{_≡_, refl, ap, _∙_}
-use mathlib.Core.List.{List, [], _∷_}
-use Prim.Native.Nat.{ℕ, _+_, _*_, _/_, _%_, _<_}
+use mathlib.Core.List.{[], _∷_}
+use Prim.Native.Nat.{ℕ, _+_, _*_, _/_, _%_}
 use native.Mathlib.Omega.{arith}
 use lib.Dec.{lit<, lit≤}
 use Rattle.algebra.specs.Field.{FieldOn, Numbers, Units}
-use Rattle.algebra.specs.Triple.{Triple}
+use Rattle.algebra.specs.Triple.{Triple, plus, times}
 use Rattle.algebra.proofs.Cubic.{cubic}
 use Rattle.algebra.proofs.Carried.{carried}
 use Rattle.gf32.specs.Gf32.{gf32, gf32-numbers, fe}
@@ -26,11 +28,16 @@ fe32768-path x y p q r = λ i. record { c0 = p i; c1 = q i; c2 = r i }
 abbrev pub triple : Fe32768 → Triple Fe32
 triple x = record { c0 = x .c0; c1 = x .c1; c2 = x .c2 }
 
-abbrev pub triples : FieldOn (Triple Fe32)
-triples = cubic gf32 no-cube
-
 unfoldable pub gf32768 : FieldOn Fe32768
-gf32768 = carried triples triple (λ t. fe32768 (t .c0) (t .c1) (t .c2)) (λ x. refl) (λ t. refl)
+gf32768 = carried (cubic gf32 no-cube) triple (λ t. fe32768 (t .c0) (t .c1) (t .c2)) (λ x. refl) (λ t. refl)
+
+pub gf32768-add : (x y : Fe32768) → triple (gf32768 .add x y) ≡ plus (gf32 .add) (gf32 .mul) (triple x) (triple y)
+unfolding gf32768 carried cubic
+gf32768-add x y = refl
+
+pub gf32768-mul : (x y : Fe32768) → triple (gf32768 .mul x y) ≡ times (gf32 .add) (gf32 .mul) (triple x) (triple y)
+unfolding gf32768 carried cubic
+gf32768-mul x y = refl
 
 unfoldable pub gf32768-numbers : Numbers Fe32768
 unfolding gf32-numbers

@@ -2,7 +2,7 @@ use mathlib.Core.Path.{_≡_, sym, ap, ap₂, _∙_}
 use Prim.Native.Nat.{_/_, _%_, _<_}
 use native.Mathlib.Omega.{arith}
 use Rattle.std.specs.declared.option.Option.the-variants.{Some}
-use Rattle.gf32.proofs.Refusals.{numbered-below, numbered-above}
+use Rattle.field.proofs.Refusals.{numbered-below, numbered-above}
 use Rattle.gf32.specs.Gf32.{gf32-numbers}
 use Rattle.gf32_ext.specs.Gf1024.{gf1024-numbers, fe1024}
 use Rattle.gf32_ext.proofs.Answered.{numbered-some, numbered-none}

@@ -1,7 +1,6 @@
-use mathlib.Core.Path.{_≡_, refl, ap, ap₂}
+use mathlib.Core.Path.{refl, ap, ap₂}
 use mathlib.Core.Bool.{true, false}
-use Prim.Native.Nat.{ℕ}
-use native.Mathlib.Omega.{arith}
+use Rattle.std.proofs.shelf.Tests.{false≢true}
 use Rattle.gf32.specs.Gf32.{fe-path}
 use Rattle.gf32_ext.specs.Gf1024.{fe1024}
 use Rattle.gf32_ext.specs.declared.fe1024.Fe1024.{Fe1024}
@@ -14,9 +13,6 @@ cyclic-law = gf1024-cyclic
 pub doubling-law : need.doubling-law
 doubling-law = gf1024-doubling
 
-false-ne-true : ¬ (false ≡ true)
-false-ne-true e = let z : _≡_ {A = ℕ} 0 1 = cc in omega arith
-
 pub equality-law : need.equality-law
 equality-law x y true e = (λ _. ap₂ fe1024 (fe-path _ _ (e .0 .0 refl)) (fe-path _ _ (e .1 .0 refl)), λ _. refl)
-equality-law x y false e = (λ t. absurd (false-ne-true t), λ p. absurd (e (λ d. false-ne-true (d .1 (ap (λ (z : Fe1024). z .c0 .value) p))) (λ d. false-ne-true (d .1 (ap (λ (z : Fe1024). z .c1 .value) p)))))
+equality-law x y false e = (λ t. absurd (false≢true t), λ p. absurd (e (λ d. false≢true (d .1 (ap (λ (z : Fe1024). z .c0 .value) p))) (λ d. false≢true (d .1 (ap (λ (z : Fe1024). z .c1 .value) p)))))

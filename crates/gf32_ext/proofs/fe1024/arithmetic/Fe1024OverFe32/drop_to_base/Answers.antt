@@ -1,6 +1,5 @@
-use mathlib.Core.Path.{_≡_, refl, sym, ap, ap₂, _∙_}
-use Prim.Native.Nat.{ℕ}
-use native.Mathlib.Omega.{arith}
+use mathlib.Core.Path.{refl, sym, ap, ap₂}
+use Rattle.std.proofs.shelf.Tests.{both-ways}
 use Rattle.gf32.specs.Gf32.{gf32, fe-path}
 use Rattle.gf32_ext.specs.Gf1024.{fe1024}
 use Rattle.gf32_ext.specs.declared.fe1024.Fe1024.{Fe1024}
@@ -12,7 +11,4 @@ returns-then-eq c = ap₂ fe1024 refl (fe-path _ _ (sym (c .eq .ensures .0 (c .i
 
 pub returns-else-eq : need.returns-else-eq
 unfolding gf32
-returns-else-eq c = λ b e.
-    let true-too = c .eq .ensures .1 (sym (ap (λ (x : Fe1024). x .c1 .value) e)) in
-    let z : _≡_ {A = ℕ} 0 1 = cc in
-    omega arith
+returns-else-eq c = λ b e. both-ways (c .eq .result) (c .if-eq .left) (c .eq .ensures .1 (sym (ap (λ (x : Fe1024). x .c1 .value) e)))

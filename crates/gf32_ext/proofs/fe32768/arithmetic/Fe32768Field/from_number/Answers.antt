@@ -2,7 +2,7 @@ use mathlib.Core.Path.{_≡_, sym, ap, _∙_}
 use Prim.Native.Nat.{_/_, _%_, _<_}
 use native.Mathlib.Omega.{arith}
 use Rattle.std.specs.declared.option.Option.the-variants.{Some}
-use Rattle.gf32.proofs.Refusals.{numbered-below, numbered-above}
+use Rattle.field.proofs.Refusals.{numbered-below, numbered-above}
 use Rattle.gf32.specs.Gf32.{gf32-numbers}
 use Rattle.gf32_ext.specs.Gf32768.{gf32768-numbers, fe32768-path}
 use Rattle.gf32_ext.proofs.Answered.{numbered-some, numbered-none}

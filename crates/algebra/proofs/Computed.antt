@@ -1,12 +1,12 @@
--- Powers that antt computes by squaring, compared by their numbers. Assumes nothing.
+-- Powers and orders of concrete elements: antt computes by squaring, and compares numbers. Assumes nothing.
 use mathlib.Core.Path.{_≡_, sym, ap, subst, _∙_}
 use mathlib.Core.Bool.{not}
 use mathlib.Core.List.{List}
 use Prim.Native.Nat.{ℕ, suc}
 use lib.Dec.{T, eqb}
 use Rattle.std.proofs.shelf.Tests.{eq-eqb}
 use Rattle.algebra.specs.Field.{FieldOn, Numbers, HasOrder, pow, divisors-to}
 use Rattle.algebra.proofs.HasOrder.{All, all-map, quick, quick-is-pow, order-by-divisors}
 
 module _ {A : Type 0} (F : FieldOn A) (N : Numbers A) where
   pub pow-is : (x y : A) (n : ℕ) → N .number (quick F x n) ≡ N .number y → pow F x n ≡ y
