@@ -1,8 +1,11 @@
 pub mod Carried
+pub mod Computed
 pub mod Cubic
+pub mod CubicInverse
 pub mod Divisors
 pub mod Eval
 pub mod Generators
+pub mod HasOrder
 pub mod Laws
 pub mod Orders
 pub mod Pigeonhole

@@ -1,0 +1,118 @@
+-- An element's order by its powers at the divisors of one exponent, and powers by squaring. Assumes nothing.
+use mathlib.Core.Path.{_≡_, refl, sym, ap, subst, _∙_}
+use mathlib.Core.Bool.{Bool, true, false}
+use mathlib.Core.List.{List, [], _∷_, _++_}
+use Prim.Native.Nat.{ℕ, zero, suc, _+_, _*_, _/_, _%_, _<_, _≤_}
+use native.Mathlib.Nat.{zero-add, suc-add, mul-zero, mul-suc, div-add-mod, mod-lt}
+use native.Mathlib.Decide.{ℕ-discrete}
+use native.Mathlib.Omega.{arith}
+use lib.Dec.{eqb}
+use Rattle.std.proofs.shelf.Tests.{eq-eqb, eqb-true, eqb-false}
+use Rattle.algebra.specs.Field.{FieldOn, HasOrder, pow, keep, divisors-to}
+
+-- P holds of each number of a list
+abbrev pub All : (ℕ → Type 0) → List ℕ → Type 0
+All P [] = Unit {0}
+All P (d ∷ ds) = P d × All P ds
+
+pub all-map : (P Q : ℕ → Type 0) → ((n : ℕ) → P n → Q n) → (ns : List ℕ) → All P ns → All Q ns
+all-map P Q f [] h = tt
+all-map P Q f (n ∷ ns) h = (f n (h .0), all-map P Q f ns (h .1))
+
+all-front : (P : ℕ → Type 0) (ds es : List ℕ) → All P (ds ++ es) → All P ds
+all-front P [] es h = tt
+all-front P (d ∷ ds) es h = (h .0, all-front P ds es (h .1))
+
+all-last : (P : ℕ → Type 0) (ds : List ℕ) (d : ℕ) → All P (ds ++ (d ∷ [])) → P d
+all-last P [] d h = h .0
+all-last P (e ∷ ds) d h = all-last P ds d (h .1)
+
+all-kept : (P : ℕ → Type 0) (b : Bool) (ds : List ℕ) (d : ℕ) → All P (keep b d ds) → All P ds
+all-kept P true ds d h = all-front P ds (d ∷ []) h
+all-kept P false ds d h = h
+
+-- what holds of each listed divisor holds of each divisor
+pub at-divisor : (P : ℕ → Type 0) (n k : ℕ) → All P (divisors-to n k) → (d : ℕ) → 0 < d → d ≤ k → n % d ≡ 0 → P d
+at-divisor P n zero h d p l e = absurd (omega arith)
+at-divisor P n (suc k) h d p l e = by (at-divisor P n k (all-kept P (eqb (n % suc k) 0) (divisors-to n k) (suc k) h) d p) (ℕ-discrete d (suc k))
+  where
+    by : (d ≤ k → n % d ≡ 0 → P d) → Dec (d ≡ suc k) → P d
+    by ih (no q) = ih (omega arith) e
+    by ih (yes q) =
+        let kept : eqb (n % suc k) 0 ≡ true = eq-eqb (n % suc k) 0 (subst (λ m. n % m ≡ 0) q e) in
+        subst P (sym q) (all-last P (divisors-to n k) (suc k) (subst (λ b. All P (keep b (suc k) (divisors-to n k))) kept h))
+
+module _ {A : Type 0} (F : FieldOn A) where
+  open FieldOn F using (𝟙, mul as _⊗_, mul-assoc, mul-comm, one-mul)
+
+  infixl 70 _⊗_
+  one-pow : (n : ℕ) → pow F 𝟙 n ≡ 𝟙
+  one-pow zero = refl
+  one-pow (suc n) = one-mul (pow F 𝟙 n) ∙ one-pow n
+
+  pow-add : (x : A) (a b : ℕ) → pow F x (a + b) ≡ pow F x a ⊗ pow F x b
+  pow-add x zero b = ap (pow F x) (zero-add b) ∙ sym (one-mul (pow F x b))
+  pow-add x (suc a) b = ap (pow F x) (suc-add a b) ∙ ap (λ y. x ⊗ y) (pow-add x a b) ∙ sym (mul-assoc x (pow F x a) (pow F x b))
+
+  pow-mul : (x : A) (a b : ℕ) → pow F x (a * b) ≡ pow F (pow F x a) b
+  pow-mul x a zero = ap (pow F x) (mul-zero a)
+  pow-mul x a (suc b) =
+      ap (pow F x) (mul-suc a b) ∙ pow-add x (a * b) a ∙ mul-comm (pow F x (a * b)) (pow F x a)
+      ∙ ap (λ y. pow F x a ⊗ y) (pow-mul x a b)
+
+  -- x to the power n, for n at most k
+  unfoldable pub squaring : ℕ → A → ℕ → A
+  squaring k x zero = 𝟙
+  squaring zero x (suc n) = 𝟙
+  squaring (suc k) x (suc n) = let s = squaring k x (suc n / 2) in elim (eqb (suc n % 2) 0) [ true ↦ s ⊗ s | false ↦ x ⊗ (s ⊗ s) ]
+
+  square-is : (x s : A) (n : ℕ) → s ≡ pow F x n → s ⊗ s ≡ pow F x (n + n)
+  square-is x s n e = ap (λ t. t ⊗ t) e ∙ sym (pow-add x n n)
+
+  squaring-step : (x s : A) (n : ℕ) → s ≡ pow F x (n / 2) → (b : Bool) → eqb (n % 2) 0 ≡ b → elim b [ true ↦ s ⊗ s | false ↦ x ⊗ (s ⊗ s) ] ≡ pow F x n
+  squaring-step x s n e true t =
+      let rest : n % 2 ≡ 0 = eqb-true (n % 2) 0 t in
+      let whole : n / 2 + n / 2 ≡ n = omega arith in
+      square-is x s (n / 2) e ∙ ap (pow F x) whole
+  squaring-step x s n e false t =
+      let rest : ¬ (n % 2 ≡ 0) = eqb-false (n % 2) 0 t in
+      let whole : suc (n / 2 + n / 2) ≡ n = omega arith in
+      ap (λ y. x ⊗ y) (square-is x s (n / 2) e) ∙ ap (pow F x) whole
+
+  squaring-is-pow : (k : ℕ) (x : A) (n : ℕ) → n ≤ k → squaring k x n ≡ pow F x n
+  unfolding squaring
+  squaring-is-pow k x zero h = refl
+  squaring-is-pow zero x (suc n) h = absurd (omega arith)
+  squaring-is-pow (suc k) x (suc n) h =
+      squaring-step x (squaring k x (suc n / 2)) (suc n) (squaring-is-pow k x (suc n / 2) (omega arith)) (eqb (suc n % 2) 0) refl
+
+  -- x to the power n, by squaring
+  abbrev pub quick : A → ℕ → A
+  quick x n = squaring n x n
+
+  pub quick-is-pow : (x : A) (n : ℕ) → quick x n ≡ pow F x n
+  quick-is-pow x n = squaring-is-pow n x n (omega arith)
+
+  -- x's power is ONE at what two such exponents leave
+  pow-rest : (x : A) (n k : ℕ) → pow F x n ≡ 𝟙 → pow F x k ≡ 𝟙 → pow F x (n % k) ≡ 𝟙
+  pow-rest x n k e f =
+      sym (one-mul (pow F x (n % k)))
+      ∙ ap (λ y. y ⊗ pow F x (n % k)) (sym (pow-mul x k (n / k) ∙ ap (λ y. pow F y (n / k)) f ∙ one-pow (n / k)))
+      ∙ sym (pow-add x (k * (n / k)) (n % k)) ∙ ap (pow F x) (div-add-mod n k) ∙ e
+
+  module _ (x : A) (n : ℕ) (one : pow F x n ≡ 𝟙) (apart : (d : ℕ) → 0 < d → d < n → n % d ≡ 0 → ¬ (pow F x d ≡ 𝟙)) where
+    -- as Euclid: what k leaves of n is a lesser exponent, until one divides n
+    none-below : (m k : ℕ) → k ≤ m → 0 < k → k < n → ¬ (pow F x k ≡ 𝟙)
+    none-below zero k l p h e = omega arith
+    none-below (suc m) k l p h e = by (none-below m (n % k)) (mod-lt n p) (ℕ-discrete (n % k) 0)
+      where
+        by : (n % k ≤ m → 0 < n % k → n % k < n → ¬ (pow F x (n % k) ≡ 𝟙)) → n % k < k → Dec (n % k ≡ 0) → ⊥
+        by less s (yes z) = apart k p h z e
+        by less s (no z) = less (omega arith) (omega arith) (omega arith) (pow-rest x n k one e)
+
+  -- if x's power is ONE at n and at no lesser divisor of n, n is x's order
+  pub order-by-divisors : (x : A) (n : ℕ) → pow F x (suc n) ≡ 𝟙 → All (λ d. ¬ (pow F x d ≡ 𝟙)) (divisors-to (suc n) n) → HasOrder F x (suc n)
+  order-by-divisors x n one none =
+      let apart : (d : ℕ) → 0 < d → d < suc n → suc n % d ≡ 0 → ¬ (pow F x d ≡ 𝟙)
+      = λ d p h e. at-divisor (λ m. ¬ (pow F x m ≡ 𝟙)) (suc n) n none d p (omega arith) e in
+      record { positive = omega arith; returns = one; least = λ k p h. none-below x (suc n) one apart k k (omega arith) p h }

@@ -1,0 +1,3 @@
+pub mod Irreducible
+pub mod Gf1024
+pub mod Gf32768
