@@ -11,7 +11,6 @@ use Rattle.gf32.specs.declared.gf32.Fe32.{Fe32}
 use Rattle.gf32_ext.specs.Irreducible.{no-square}
 use Rattle.gf32_ext.specs.Gf1024.{gf1024, fe1024, pair}
 use Rattle.gf32_ext.specs.declared.fe1024.Fe1024.{Fe1024}
-
 open FieldOn gf32 using (𝟘, 𝟙, add as _⊕_, mul as _⊗_, neg as ⊖_)
 
 infixl 60 _⊕_
