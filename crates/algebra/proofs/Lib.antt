@@ -8,6 +8,7 @@ pub mod Eval
 pub mod Quadratic
 pub mod Cubic
 pub mod Carried
+pub mod Squaring
 pub mod HasOrder
 pub mod CubicInverse
 pub mod Computed

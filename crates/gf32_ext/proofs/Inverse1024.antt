@@ -1,5 +1,5 @@
 -- Inverses in GF(1024): the conjugate over the norm. Assumes nothing.
-use mathlib.Core.Path.{_≡_, refl, sym, ap, _∙_}
+use mathlib.Core.Path.{_≡_, refl, ap, _∙_}
 use mathlib.Core.List.{[], _∷_}
 use Rattle.algebra.specs.Field.{FieldOn}
 use Rattle.algebra.specs.Pair.{times}
