@@ -4,3 +4,6 @@ pub mod Code
 pub mod Remainder
 pub mod Pair
 pub mod Triple
+pub mod Series
+pub mod Register
+pub mod Decode
