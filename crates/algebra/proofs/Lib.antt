@@ -1,3 +1,4 @@
+pub mod Berlekamp
 pub mod Carried
 pub mod Computed
 pub mod Cubic
@@ -7,6 +8,7 @@ pub mod Eval
 pub mod Generators
 pub mod HasOrder
 pub mod Laws
+pub mod Massey
 pub mod Orders
 pub mod Pigeonhole
 pub mod Poly
@@ -14,5 +16,8 @@ pub mod Quadratic
 pub mod Remainder
 pub mod Residue
 pub mod Sealing
+pub mod Series
 pub mod Solver
 pub mod Squaring
+pub mod Tab
+pub mod Updates
