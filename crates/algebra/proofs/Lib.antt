@@ -12,6 +12,7 @@ pub mod Massey
 pub mod Orders
 pub mod Pigeonhole
 pub mod Poly
+pub mod Powers
 pub mod Quadratic
 pub mod Remainder
 pub mod Residue
