@@ -3,12 +3,16 @@ pub mod Carried
 pub mod Computed
 pub mod Cubic
 pub mod CubicInverse
+pub mod Derivative
+pub mod Distinct
 pub mod Divisors
 pub mod Eval
 pub mod Generators
 pub mod HasOrder
 pub mod Laws
+pub mod Linear
 pub mod Massey
+pub mod Members
 pub mod Orders
 pub mod Pigeonhole
 pub mod Poly
