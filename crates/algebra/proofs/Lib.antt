@@ -1,5 +1,6 @@
 pub mod Berlekamp
 pub mod Carried
+pub mod Chien
 pub mod Computed
 pub mod Cubic
 pub mod CubicInverse
