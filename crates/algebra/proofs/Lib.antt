@@ -31,6 +31,7 @@ pub mod Series
 pub mod Solver
 pub mod Squaring
 pub mod Tab
+pub mod Turns
 pub mod Unique
 pub mod Updates
 pub mod Vandermonde
