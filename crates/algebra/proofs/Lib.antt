@@ -15,3 +15,4 @@ pub mod Remainder
 pub mod Residue
 pub mod Sealing
 pub mod Solver
+pub mod Squaring

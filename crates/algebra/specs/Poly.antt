@@ -1,8 +1,13 @@
--- Polynomials as lists of coefficients, lowest power first. Assumes nothing.
+-- Polynomials as lists of coefficients, lowest power first, and series as functions of the power. Assumes nothing.
 use mathlib.Core.List.{List, [], _∷_, map}
-use Prim.Native.Nat.{ℕ}
+use Prim.Native.Nat.{ℕ, zero, suc}
 use lib.ListN.{getD}
 use Rattle.algebra.specs.Field.{FieldOn}
+
+-- the first n terms of a series, as a list
+abbrev pub tab : {A : Type 0} → ℕ → (ℕ → A) → List A
+tab zero f = []
+tab (suc n) f = f 0 ∷ tab n (λ k. f (suc k))
 
 module _ {A : Type 0} (F : FieldOn A) where
   open FieldOn F using (𝟘, 𝟙, add as _⊕_, mul as _⊗_, neg as ⊖_)

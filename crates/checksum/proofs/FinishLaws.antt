@@ -8,6 +8,7 @@ use lib.Dec.{T, eqb, eqb→eq, lit<, lit≤}
 use Rattle.algebra.specs.Field.{pow}
 use Rattle.algebra.specs.Poly.{eval}
 use Rattle.algebra.specs.Code.{Code, Lawful, generator}
+use Rattle.algebra.proofs.Orders.{order-ne-zero}
 use Rattle.gf32.specs.declared.gf32.Fe32.{Fe32}
 use Rattle.gf32.specs.Binary.{product}
 use Rattle.gf32.specs.Every.{at}
@@ -30,7 +31,7 @@ roots (suc j) p h = roots-test j (omega arith)
 pub finish-lawful : Lawful gf32 gf32 (λ x. x) finish
 unfolding finish at-power gf32 gf32-units
 finish-lawful = record {
-  root-ne-zero = λ e. let z : _≡_ {A = ℕ} 2 0 = ap (λ (x : Fe32). x .value) e in omega arith;
+  root-ne-zero = order-ne-zero gf32 (finish .root) 31 t-has-order-31;
   exponents = lit≤ tt;
   exponents-small = lit≤ tt;
   roots = λ j p h. fe-path _ _ (roots j p h);

@@ -1,2 +1,3 @@
+pub mod Bech32
 pub mod Engine
 pub mod Finish

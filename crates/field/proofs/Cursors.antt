@@ -14,7 +14,8 @@ use Rattle.algebra.specs.Field.{FieldOn, pow}
 use Rattle.algebra.proofs.Orders.{pow-add}
 use Rattle.field.specs.declared.cursor.Powers.{Powers}
 use Rattle.field.specs.declared.cursor.PowersRange.{PowersRange}
-use Rattle.field.specs.Cursors.{tab, left, ahead, coming}
+use Rattle.algebra.specs.Poly.{tab}
+use Rattle.field.specs.Cursors.{left, ahead, coming}
 
 tab-same : {A : Type 0} (n : ℕ) (f h : ℕ → A) → ((k : ℕ) → f k ≡ h k) → tab n f ≡ tab n h
 tab-same zero f h e = refl

@@ -2,7 +2,8 @@
 ghost use mathlib.Core.Path.{_≡_};
 ghost use Prim.Native.Nat.{ℕ, _+_, _-_};
 ghost use Rattle.algebra.specs.Field.{pow};
-ghost use Rattle.field.specs.Cursors.{tab, ahead, coming};
+ghost use Rattle.algebra.specs.Poly.{tab};
+ghost use Rattle.field.specs.Cursors.{ahead, coming};
 ghost use Rattle.field.specs.Powers.{inverse-power, power, Ordered};
 use crate::cursor::Powers;
 use crate::cursor::PowersRange;
