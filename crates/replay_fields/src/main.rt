@@ -34,7 +34,10 @@ fn write_refusal(heap: Global, fault: FieldFault) -> Result<String, AnyError> {
     Ok(format!(heap, "refusal {number}")?)
 }
 
-fn write_outcome<F: Field>(heap: Global, outcome: Result<F, FieldFault>) -> Result<String, AnyError> {
+fn write_outcome<F: Field>(
+    heap: Global,
+    outcome: Result<F, FieldFault>,
+) -> Result<String, AnyError> {
     match outcome {
         Ok(element) => write_element(heap, element),
         Err(fault) => write_refusal(heap, fault),
@@ -55,7 +58,11 @@ fn write_dropped(heap: Global, dropped: Option<Fe32>) -> Result<String, AnyError
     }
 }
 
-fn answer_of_one<E: ExtensionField<BaseField = Fe32>>(heap: Global, operation: &str, argument: &str) -> Result<String, AnyError> {
+fn answer_of_one<E: ExtensionField<BaseField = Fe32>>(
+    heap: Global,
+    operation: &str,
+    argument: &str,
+) -> Result<String, AnyError> {
     if operation == "lift" {
         return write_element(heap, E::lift(read_element(argument)?));
     }
@@ -69,7 +76,12 @@ fn answer_of_one<E: ExtensionField<BaseField = Fe32>>(heap: Global, operation: &
     }
 }
 
-fn answer_of_two<F: Field>(heap: Global, operation: &str, element: F, argument: &str) -> Result<String, AnyError> {
+fn answer_of_two<F: Field>(
+    heap: Global,
+    operation: &str,
+    element: F,
+    argument: &str,
+) -> Result<String, AnyError> {
     match operation {
         "add" => write_element(heap, element.add(read_element(argument)?)),
         "sub" => write_element(heap, difference(element, read_element(argument)?)),
@@ -81,7 +93,11 @@ fn answer_of_two<F: Field>(heap: Global, operation: &str, element: F, argument: 
     }
 }
 
-fn answer_in<E: ExtensionField<BaseField = Fe32>>(heap: Global, operation: &str, arguments: &str) -> Result<String, AnyError> {
+fn answer_in<E: ExtensionField<BaseField = Fe32>>(
+    heap: Global,
+    operation: &str,
+    arguments: &str,
+) -> Result<String, AnyError> {
     match arguments.split_once(' ') {
         Some((first, second)) => answer_of_two::<E>(heap, operation, read_element(first)?, second),
         None => answer_of_one::<E>(heap, operation, arguments),

@@ -1,6 +1,8 @@
 // Replays recorded answers on rows, by each code that the library has. The commands:
 //     E CODE ROW    the row's residue, lowest power first
 //     S CODE ROW    the check symbols that seal the row, in order
+use checksum::bech32::Bech32;
+use checksum::bech32::Bech32Checksum;
 use checksum::checksum::Checksum;
 use checksum::engine::Engine;
 use checksum::engine::seal;
@@ -16,12 +18,20 @@ use replay::lines::replay;
 use std::alloc::Global;
 use std::error::AnyError;
 
-fn answer_by<C: Checksum<SymbolField = Fe32>>(heap: Global, letter: &str, row: &[Fe32]) -> Result<String, AnyError> {
+fn answer_by<C: Checksum<SymbolField = Fe32>>(
+    heap: Global,
+    letter: &str,
+    row: &[Fe32],
+) -> Result<String, AnyError> {
     match letter {
         "E" => write_elements(heap, Engine::<C>::of_row(row).residue()),
         "S" => {
             let checks = seal::<C>(row);
-            let checks: Vec<Fe32> = checks.iter().take(C::checksum_length()).copied().collect(heap)?;
+            let checks: Vec<Fe32> = checks
+                .iter()
+                .take(C::checksum_length())
+                .copied()
+                .collect(heap)?;
             write_elements(heap, checks.as_slice())
         }
         _ => Err("an unknown command".into()),
@@ -41,6 +51,7 @@ impl Answers for Rows as RowAnswers {
         let row = read_elements(heap, row)?;
         match code {
             "finish" => answer_by::<Finish>(heap, letter, row.as_slice()),
+            "sheet" => answer_by::<Bech32>(heap, letter, row.as_slice()),
             _ => Err("an unknown code".into()),
         }
     }
