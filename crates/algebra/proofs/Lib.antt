@@ -10,6 +10,7 @@ pub mod Laws
 pub mod Orders
 pub mod Pigeonhole
 pub mod Poly
+pub mod Powers
 pub mod Quadratic
 pub mod Remainder
 pub mod Residue
