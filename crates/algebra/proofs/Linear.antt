@@ -9,9 +9,8 @@ use Rattle.algebra.specs.Poly.{coeff, eval, scaleP}
 use Rattle.algebra.specs.Series.{shift, times, lin}
 use Rattle.algebra.proofs.Laws.{ring}
 use Rattle.algebra.proofs.Solver.{:0, :1, _:+_, _:*_, :-_, _:-_, v0, v1, v2, solve}
-use Rattle.algebra.proofs.Poly.{length-scaleP, coeff-addP, coeff-scaleP}
+use Rattle.algebra.proofs.Poly.{length-addP-max, length-scaleP, coeff-addP, coeff-scaleP}
 use Rattle.algebra.proofs.Eval.{eval-addP, eval-scaleP}
-use Rattle.algebra.proofs.Updates.{length-addP-max}
 use Rattle.algebra.proofs.Series.{shift-ext, shift-scale, coeff-cons, times-add, times-scale, times-shift, times-addP, times-scaleP, times-cons, unit, times-unit}
 
 module _ {A : Type 0} (F : FieldOn A) where

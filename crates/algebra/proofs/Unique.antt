@@ -12,12 +12,11 @@ use Rattle.algebra.specs.Register.{Generates, register}
 use Rattle.algebra.proofs.Laws.{factor-zero, sub-zero, inv-ne-zero}
 use Rattle.algebra.proofs.Solver.{:0, :1, _:+_, _:*_, _:-_, v0, v1, v2, solve}
 use Rattle.algebra.proofs.Orders.{pow-ne-zero}
-use Rattle.algebra.proofs.Poly.{coeff-subP, coeff-high, list-ext}
+use Rattle.algebra.proofs.Poly.{length-addP-max, coeff-subP, coeff-high, list-ext}
 use Rattle.algebra.proofs.Eval.{eval-subP}
 use Rattle.algebra.proofs.Members.{all-from, all-both}
 use Rattle.algebra.proofs.Distinct.{distinct-inv}
 use Rattle.algebra.proofs.Series.{times-agree}
-use Rattle.algebra.proofs.Updates.{length-addP-max}
 use Rattle.algebra.proofs.PowerSums.{psum-later, times-psum}
 use Rattle.algebra.proofs.Vandermonde.{vandermonde}
 use Rattle.algebra.proofs.Roots.{many-roots}
