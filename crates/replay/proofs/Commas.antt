@@ -1,6 +1,6 @@
 -- The steps by which a list's text is written.
 use mathlib.Core.List.{List, [], _∷_, _++_, map, append-assoc, append-nil}
-use mathlib.Core.Path.{_≡_, refl, sym, _∙_, ap}
+use mathlib.Core.Path.{_≡_, refl}
 use Prim.Native.Nat.{ℕ, _+_, _<_, _≤_}
 use native.Mathlib.Omega.{arith}
 use lib.ListN.{length, getD, drop}
@@ -11,9 +11,6 @@ use Rattle.replay.specs.Elements.{afterCommas, listed}
 pub listed-none : {A : Type 0} (number : A → ℕ) (xs : List A) → length xs ≡ 0 → listed (map number xs) ≡ 45 ∷ []
 listed-none number [] none = refl
 listed-none number (x ∷ xs) none = absurd (omega arith)
-
-pub listed-first : {A : Type 0} (number : A → ℕ) (whole rest : List A) (x : A) → whole ≡ x ∷ rest → decimal (number x) ++ afterCommas (map number rest) ≡ listed (map number whole)
-listed-first number whole rest x e = rw e refl
 
 pub afterCommas-more : {A : Type 0} (number : A → ℕ) (text : List ℕ) (xs : List A) (i : ℕ) (x : A) → i < length xs → x ≡ getD xs i x
     → text ++ afterCommas (map number (drop i xs)) ≡ ((text ++ (44 ∷ [])) ++ decimal (number x)) ++ afterCommas (map number (drop (i + 1) xs))

@@ -37,15 +37,15 @@ onto c [] = (c ∷ []) ∷ []
 onto c (part ∷ parts) = (c ∷ part) ∷ parts
 
 -- the parts of a text between its commas
-abbrev pub between-commas : List ℕ → List (List ℕ)
-between-commas [] = [] ∷ []
-between-commas (c ∷ text) = cond (eqb c 44) ([] ∷ between-commas text) (onto c (between-commas text))
+abbrev pub betweenCommas : List ℕ → List (List ℕ)
+betweenCommas [] = [] ∷ []
+betweenCommas (c ∷ text) = cond (eqb c 44) ([] ∷ betweenCommas text) (onto c (betweenCommas text))
 
 -- the texts of the elements in a list's text: none in a single minus
 abbrev pub entries : List ℕ → List (List ℕ)
-entries [] = between-commas []
-entries (c ∷ []) = cond (eqb c 45) [] (between-commas (c ∷ []))
-entries (c ∷ d ∷ text) = between-commas (c ∷ d ∷ text)
+entries [] = betweenCommas []
+entries (c ∷ []) = cond (eqb c 45) [] (betweenCommas (c ∷ []))
+entries (c ∷ d ∷ text) = betweenCommas (c ∷ d ∷ text)
 
 -- the elements are those that a list's text stands for, in order
 abbrev pub ReadAs : {A : Type 0} → Numbers A → List ℕ → List A → Type 0
