@@ -7,6 +7,7 @@ pub mod Eval
 pub mod Generators
 pub mod HasOrder
 pub mod Laws
+pub mod Lifted
 pub mod Orders
 pub mod Pigeonhole
 pub mod Poly
@@ -15,3 +16,4 @@ pub mod Remainder
 pub mod Residue
 pub mod Sealing
 pub mod Solver
+pub mod Syndromes
