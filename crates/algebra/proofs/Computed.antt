@@ -6,7 +6,8 @@ use Prim.Native.Nat.{ℕ, suc}
 use lib.Dec.{T, eqb}
 use Rattle.std.proofs.shelf.Tests.{eq-eqb}
 use Rattle.algebra.specs.Field.{FieldOn, Numbers, HasOrder, pow, divisors-to}
-use Rattle.algebra.proofs.HasOrder.{All, all-map, quick, quick-is-pow, order-by-divisors}
+use Rattle.algebra.proofs.Squaring.{quick, quick-is-pow}
+use Rattle.algebra.proofs.HasOrder.{All, all-map, order-by-divisors}
 
 module _ {A : Type 0} (F : FieldOn A) (N : Numbers A) where
   pub pow-is : (x y : A) (n : ℕ) → N .number (quick F x n) ≡ N .number y → pow F x n ≡ y

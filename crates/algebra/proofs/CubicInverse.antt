@@ -1,6 +1,6 @@
 -- Inverses of triples with ζ³ = 1 + ζ by one inverse of the field below: cofactors over the determinant. Assumes nothing.
 use mathlib.Core.Path.{_≡_, refl, sym, ap, ap₂, _∙_}
-use mathlib.Core.List.{List, [], _∷_}
+use mathlib.Core.List.{[], _∷_}
 use Rattle.algebra.specs.Field.{FieldOn}
 use Rattle.algebra.specs.Triple.{Triple, each, times}
 use Rattle.algebra.proofs.Laws.{factor-zero, sub-zero}

@@ -1,14 +1,15 @@
--- An element's order by its powers at the divisors of one exponent, and powers by squaring. Assumes nothing.
+-- An element's order by its powers at the divisors of one exponent. Assumes nothing.
 use mathlib.Core.Path.{_≡_, refl, sym, ap, subst, _∙_}
 use mathlib.Core.Bool.{Bool, true, false}
 use mathlib.Core.List.{List, [], _∷_, _++_}
-use Prim.Native.Nat.{ℕ, zero, suc, _+_, _*_, _/_, _%_, _<_, _≤_}
-use native.Mathlib.Nat.{zero-add, suc-add, mul-zero, mul-suc, div-add-mod, mod-lt}
+use Prim.Native.Nat.{ℕ, zero, suc, _*_, _/_, _%_, _<_, _≤_}
+use native.Mathlib.Nat.{mul-zero, mul-suc, div-add-mod, mod-lt}
 use native.Mathlib.Decide.{ℕ-discrete}
 use native.Mathlib.Omega.{arith}
 use lib.Dec.{eqb}
-use Rattle.std.proofs.shelf.Tests.{eq-eqb, eqb-true, eqb-false}
+use Rattle.std.proofs.shelf.Tests.{eq-eqb}
 use Rattle.algebra.specs.Field.{FieldOn, HasOrder, pow, keep, divisors-to}
+use Rattle.algebra.proofs.Squaring.{pow-add}
 
 -- P holds of each number of a list
 abbrev pub All : (ℕ → Type 0) → List ℕ → Type 0
@@ -43,62 +44,25 @@ at-divisor P n (suc k) h d p l e = by (at-divisor P n k (all-kept P (eqb (n % su
         subst P (sym q) (all-last P (divisors-to n k) (suc k) (subst (λ b. All P (keep b (suc k) (divisors-to n k))) kept h))
 
 module _ {A : Type 0} (F : FieldOn A) where
-  open FieldOn F using (𝟙, mul as _⊗_, mul-assoc, mul-comm, one-mul)
+  open FieldOn F using (𝟙, mul as _⊗_, mul-comm, one-mul)
 
   infixl 70 _⊗_
   one-pow : (n : ℕ) → pow F 𝟙 n ≡ 𝟙
   one-pow zero = refl
   one-pow (suc n) = one-mul (pow F 𝟙 n) ∙ one-pow n
 
-  pow-add : (x : A) (a b : ℕ) → pow F x (a + b) ≡ pow F x a ⊗ pow F x b
-  pow-add x zero b = ap (pow F x) (zero-add b) ∙ sym (one-mul (pow F x b))
-  pow-add x (suc a) b = ap (pow F x) (suc-add a b) ∙ ap (λ y. x ⊗ y) (pow-add x a b) ∙ sym (mul-assoc x (pow F x a) (pow F x b))
-
   pow-mul : (x : A) (a b : ℕ) → pow F x (a * b) ≡ pow F (pow F x a) b
   pow-mul x a zero = ap (pow F x) (mul-zero a)
   pow-mul x a (suc b) =
-      ap (pow F x) (mul-suc a b) ∙ pow-add x (a * b) a ∙ mul-comm (pow F x (a * b)) (pow F x a)
+      ap (pow F x) (mul-suc a b) ∙ pow-add F x (a * b) a ∙ mul-comm (pow F x (a * b)) (pow F x a)
       ∙ ap (λ y. pow F x a ⊗ y) (pow-mul x a b)
-
-  -- x to the power n, for n at most k
-  unfoldable pub squaring : ℕ → A → ℕ → A
-  squaring k x zero = 𝟙
-  squaring zero x (suc n) = 𝟙
-  squaring (suc k) x (suc n) = let s = squaring k x (suc n / 2) in elim (eqb (suc n % 2) 0) [ true ↦ s ⊗ s | false ↦ x ⊗ (s ⊗ s) ]
-
-  square-is : (x s : A) (n : ℕ) → s ≡ pow F x n → s ⊗ s ≡ pow F x (n + n)
-  square-is x s n e = ap (λ t. t ⊗ t) e ∙ sym (pow-add x n n)
-
-  squaring-step : (x s : A) (n : ℕ) → s ≡ pow F x (n / 2) → (b : Bool) → eqb (n % 2) 0 ≡ b → elim b [ true ↦ s ⊗ s | false ↦ x ⊗ (s ⊗ s) ] ≡ pow F x n
-  squaring-step x s n e true t =
-      let rest : n % 2 ≡ 0 = eqb-true (n % 2) 0 t in
-      let whole : n / 2 + n / 2 ≡ n = omega arith in
-      square-is x s (n / 2) e ∙ ap (pow F x) whole
-  squaring-step x s n e false t =
-      let rest : ¬ (n % 2 ≡ 0) = eqb-false (n % 2) 0 t in
-      let whole : suc (n / 2 + n / 2) ≡ n = omega arith in
-      ap (λ y. x ⊗ y) (square-is x s (n / 2) e) ∙ ap (pow F x) whole
-
-  squaring-is-pow : (k : ℕ) (x : A) (n : ℕ) → n ≤ k → squaring k x n ≡ pow F x n
-  unfolding squaring
-  squaring-is-pow k x zero h = refl
-  squaring-is-pow zero x (suc n) h = absurd (omega arith)
-  squaring-is-pow (suc k) x (suc n) h =
-      squaring-step x (squaring k x (suc n / 2)) (suc n) (squaring-is-pow k x (suc n / 2) (omega arith)) (eqb (suc n % 2) 0) refl
-
-  -- x to the power n, by squaring
-  abbrev pub quick : A → ℕ → A
-  quick x n = squaring n x n
-
-  pub quick-is-pow : (x : A) (n : ℕ) → quick x n ≡ pow F x n
-  quick-is-pow x n = squaring-is-pow n x n (omega arith)
 
   -- x's power is ONE at what two such exponents leave
   pow-rest : (x : A) (n k : ℕ) → pow F x n ≡ 𝟙 → pow F x k ≡ 𝟙 → pow F x (n % k) ≡ 𝟙
   pow-rest x n k e f =
       sym (one-mul (pow F x (n % k)))
       ∙ ap (λ y. y ⊗ pow F x (n % k)) (sym (pow-mul x k (n / k) ∙ ap (λ y. pow F y (n / k)) f ∙ one-pow (n / k)))
-      ∙ sym (pow-add x (k * (n / k)) (n % k)) ∙ ap (pow F x) (div-add-mod n k) ∙ e
+      ∙ sym (pow-add F x (k * (n / k)) (n % k)) ∙ ap (pow F x) (div-add-mod n k) ∙ e
 
   module _ (x : A) (n : ℕ) (one : pow F x n ≡ 𝟙) (apart : (d : ℕ) → 0 < d → d < n → n % d ≡ 0 → ¬ (pow F x d ≡ 𝟙)) where
     -- as Euclid: what k leaves of n is a lesser exponent, until one divides n

@@ -16,4 +16,5 @@ pub mod Remainder
 pub mod Residue
 pub mod Sealing
 pub mod Solver
+pub mod Squaring
 pub mod Syndromes

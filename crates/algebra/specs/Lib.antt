@@ -5,3 +5,6 @@ pub mod Remainder
 pub mod Rows
 pub mod Pair
 pub mod Triple
+pub mod Series
+pub mod Register
+pub mod Decode

@@ -1,5 +1,5 @@
 -- Inverses in GF(1024): the conjugate over the norm. Assumes nothing.
-use mathlib.Core.Path.{_≡_, refl, sym, ap, _∙_}
+use mathlib.Core.Path.{_≡_, refl, ap, _∙_}
 use mathlib.Core.List.{[], _∷_}
 use Rattle.algebra.specs.Field.{FieldOn}
 use Rattle.algebra.specs.Pair.{times}
@@ -11,7 +11,6 @@ use Rattle.gf32.specs.declared.gf32.Fe32.{Fe32}
 use Rattle.gf32_ext.specs.Irreducible.{no-square}
 use Rattle.gf32_ext.specs.Gf1024.{gf1024, fe1024, pair}
 use Rattle.gf32_ext.specs.declared.fe1024.Fe1024.{Fe1024}
-
 open FieldOn gf32 using (𝟘, 𝟙, add as _⊕_, mul as _⊗_, neg as ⊖_)
 
 infixl 60 _⊕_

@@ -9,7 +9,6 @@ use Rattle.gf32.specs.declared.gf32.Fe32.{Fe32}
 use Rattle.gf32_ext.specs.Irreducible.{no-cube}
 use Rattle.gf32_ext.specs.Gf32768.{gf32768, fe32768, triple}
 use Rattle.gf32_ext.specs.declared.fe32768.Fe32768.{Fe32768}
-
 open FieldOn gf32 using (𝟘, 𝟙, add as _⊕_, mul as _⊗_, neg as ⊖_)
 
 infixl 60 _⊕_

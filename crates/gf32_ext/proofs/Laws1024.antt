@@ -5,7 +5,7 @@ use Rattle.algebra.specs.Field.{Cyclic, Doubling, HasOrder, Lifts}
 use Rattle.algebra.specs.Pair.{Pair}
 use Rattle.algebra.proofs.Quadratic.{quadratic, quadratic-lifts}
 use Rattle.algebra.proofs.Carried.{carried}
-use Rattle.algebra.proofs.HasOrder.{squaring}
+use Rattle.algebra.proofs.Squaring.{squaring}
 use Rattle.gf32.specs.Binary.{product}
 use Rattle.gf32.specs.Gf32.{gf32, gf32-numbers}
 use Rattle.gf32.proofs.Cyclic.{gf32-doubling}

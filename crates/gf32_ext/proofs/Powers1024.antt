@@ -1,11 +1,10 @@
 -- Two powers of 1 + 6 ζ in GF(1024). Assumes nothing.
 use mathlib.Core.Path.{_≡_, refl}
-use Prim.Native.Nat.{ℕ}
 use lib.Dec.{lit<}
 use Rattle.algebra.specs.Field.{pow}
 use Rattle.algebra.proofs.Quadratic.{quadratic}
 use Rattle.algebra.proofs.Carried.{carried}
-use Rattle.algebra.proofs.HasOrder.{squaring}
+use Rattle.algebra.proofs.Squaring.{squaring}
 use Rattle.algebra.proofs.Computed.{pow-is}
 use Rattle.gf32.specs.Binary.{product}
 use Rattle.gf32.specs.Gf32.{gf32, gf32-numbers, fe}

@@ -47,9 +47,9 @@ gf1024-numbers =
       small = lit≤ tt;
       below = λ x. omega (arith, N .below (x .c0), N .below (x .c1));
       element-number = λ x.
-        let low : (N .number (x .c0) + 32 * N .number (x .c1)) % 32 ≡ N .number (x .c0) = omega (arith, N .below (x .c0)) in
-        let high : (N .number (x .c0) + 32 * N .number (x .c1)) / 32 ≡ N .number (x .c1) = omega (arith, N .below (x .c0)) in
-        ap₂ fe1024 (ap (N .element) low ∙ N .element-number (x .c0)) (ap (N .element) high ∙ N .element-number (x .c1));
+          let low : (N .number (x .c0) + 32 * N .number (x .c1)) % 32 ≡ N .number (x .c0) = omega (arith, N .below (x .c0)) in
+          let high : (N .number (x .c0) + 32 * N .number (x .c1)) / 32 ≡ N .number (x .c1) = omega (arith, N .below (x .c0)) in
+          ap₂ fe1024 (ap (N .element) low ∙ N .element-number (x .c0)) (ap (N .element) high ∙ N .element-number (x .c1));
       number-element = λ n h. omega arith;
     }
 

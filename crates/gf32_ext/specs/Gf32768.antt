@@ -51,11 +51,11 @@ gf32768-numbers =
       small = lit≤ tt;
       below = λ x. omega (arith, N .below (x .c0), N .below (x .c1), N .below (x .c2));
       element-number = λ x.
-        let low : number x % 32 ≡ N .number (x .c0) = omega (arith, N .below (x .c0)) in
-        let upper : number x / 32 ≡ N .number (x .c1) + 32 * N .number (x .c2) = omega (arith, N .below (x .c0)) in
-        let middle : number x / 32 % 32 ≡ N .number (x .c1) = ap (λ (n : ℕ). n % 32) upper ∙ omega (arith, N .below (x .c1)) in
-        let high : number x / 1024 ≡ N .number (x .c2) = omega (arith, N .below (x .c0), N .below (x .c1)) in
-        fe32768-path _ _ (ap (N .element) low ∙ N .element-number (x .c0)) (ap (N .element) middle ∙ N .element-number (x .c1)) (ap (N .element) high ∙ N .element-number (x .c2));
+          let low : number x % 32 ≡ N .number (x .c0) = omega (arith, N .below (x .c0)) in
+          let upper : number x / 32 ≡ N .number (x .c1) + 32 * N .number (x .c2) = omega (arith, N .below (x .c0)) in
+          let middle : number x / 32 % 32 ≡ N .number (x .c1) = ap (λ (n : ℕ). n % 32) upper ∙ omega (arith, N .below (x .c1)) in
+          let high : number x / 1024 ≡ N .number (x .c2) = omega (arith, N .below (x .c0), N .below (x .c1)) in
+          fe32768-path _ _ (ap (N .element) low ∙ N .element-number (x .c0)) (ap (N .element) middle ∙ N .element-number (x .c1)) (ap (N .element) high ∙ N .element-number (x .c2));
       number-element = λ n h. omega arith;
     }
 

@@ -17,6 +17,7 @@ impl Fe1024 {
         c0: Fe32::ZERO,
         c1: Fe32::ZERO,
     };
+
     pub const ONE: Fe1024 = Fe1024 {
         c0: Fe32::ONE,
         c1: Fe32::ZERO,

@@ -19,6 +19,7 @@ impl Fe32768 {
         c1: Fe32::ZERO,
         c2: Fe32::ZERO,
     };
+
     pub const ONE: Fe32768 = Fe32768 {
         c0: Fe32::ONE,
         c1: Fe32::ZERO,

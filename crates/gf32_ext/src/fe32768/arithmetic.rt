@@ -81,7 +81,10 @@ pub impl Field for Fe32768 as Fe32768Field {
         let first = sum.mul(sum).add(self.c1.mul(self.c1.add(self.c2)).neg());
         let second = self.c2.mul(self.c2).add(self.c0.mul(self.c1).neg());
         let third = self.c1.mul(self.c1).add(self.c2.mul(sum).neg());
-        let determinant = self.c0.mul(first).add(self.c2.mul(second)).add(self.c1.mul(third));
+        let determinant = self.c0
+            .mul(first)
+            .add(self.c2.mul(second))
+            .add(self.c1.mul(third));
         let scale = determinant.multiplicative_inverse()?;
         Ok(Fe32768 {
             c0: first.mul(scale),

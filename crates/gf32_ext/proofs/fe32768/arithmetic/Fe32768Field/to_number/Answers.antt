@@ -1,5 +1,3 @@
-use mathlib.Core.Path.{ap₂}
-use Prim.Native.Nat.{_+_, _*_}
 use native.Mathlib.Omega.{arith}
 use Rattle.gf32.specs.Gf32.{gf32-numbers}
 use Rattle.gf32_ext.specs.Gf32768.{gf32768-numbers}

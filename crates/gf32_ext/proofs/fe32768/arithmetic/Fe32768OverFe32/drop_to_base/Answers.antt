@@ -17,5 +17,5 @@ returns-else-eq c = λ b e.
     elim (c .else-eq .came) [
       | else-eq·by·else-eq w ↦ both-ways (c .eq .result) (w .if-eq .left) (c .eq .ensures .1 (sym (ap (λ (x : Fe32768). x .c1 .value) e)))
       | else-eq·by·then-eq·else-eq-2 w ↦
-        both-ways (w .eq-then-eq .result) (w .if-eq-2 .left) (w .eq-then-eq .ensures .1 (sym (ap (λ (x : Fe32768). x .c2 .value) e)))
+          both-ways (w .eq-then-eq .result) (w .if-eq-2 .left) (w .eq-then-eq .ensures .1 (sym (ap (λ (x : Fe32768). x .c2 .value) e)))
     ]
