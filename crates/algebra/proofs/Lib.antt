@@ -1,9 +1,11 @@
 pub mod Carried
+pub mod Changes
 pub mod Computed
 pub mod Cubic
 pub mod CubicInverse
 pub mod Divisors
 pub mod Eval
+pub mod Flags
 pub mod Generators
 pub mod HasOrder
 pub mod Laws
