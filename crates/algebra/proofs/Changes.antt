@@ -4,7 +4,7 @@ use mathlib.Core.List.{List, [], _∷_, _++_, map, reverse, reverse-cons}
 use mathlib.Core.Bool.{Bool, true, false, not, _&&_}
 use Prim.Native.Nat.{ℕ, zero, suc, _+_, _<_, _≤_}
 use native.Mathlib.Omega.{arith}
-use native.Mathlib.Nat.{add-comm}
+use native.Mathlib.Nat.{mul-comm}
 use lib.ListN.{length, length-map, length-reverse}
 use Rattle.std.proofs.shelf.Lists.{getD-push, getD-append-left}
 use Rattle.algebra.specs.Field.{FieldOn, Lifts, pow}
@@ -16,7 +16,8 @@ use Rattle.algebra.proofs.Laws.{add-zero, mul-zero, zero-mul, mul-ne-zero, sub
 use Rattle.algebra.proofs.Solver.{:0, :1, _:+_, _:*_, _:-_, v0, v1, v2, v3, v4, solve}
 use Rattle.algebra.proofs.Poly.{length-subP}
 use Rattle.algebra.proofs.Lifted.{up-zero, up-ne-zero}
-use Rattle.algebra.proofs.Orders.{pow-add, pow-mul, pow-ne-zero}
+use Rattle.algebra.proofs.Powers.{pow-add, pow-mul}
+use Rattle.algebra.proofs.Orders.{pow-ne-zero}
 use Rattle.algebra.proofs.Flags.{all-map, positions-below, distinct-more}
 use Rattle.algebra.proofs.Syndromes.{value, value-cons}
 
@@ -40,8 +41,10 @@ module _ {S : Type 0} (s : FieldOn S) where
       by false (yes h) = ap (λ t. t ⊕ ⊖ v) h ∙ s .add-neg v
       by false (no h) = λ z. h (sub-zero s (a .symbol) v z)
 
-  pub never-both : (c : S) (f g : Bool) → Told c f g → ¬ ((f ≡ true) × (g ≡ true))
-  never-both c f g t h = ?
+  pub never-both : (c : S) (f g : Bool) → Told c f g → (f && g) ≡ false
+  never-both c true true t = absurd t
+  never-both c true false t = refl
+  never-both c false g t = refl
 
   pub length-wrong : (b : Book S) (n : List S) → length n ≡ length b → length (wrong-places discrete b n) ≡ length b
   length-wrong [] n h = refl
@@ -54,3 +57,86 @@ module _ {S : Type 0} (s : FieldOn S) where
 
   pub changes-later : (c : S) (cs : List S) (p : ℕ) → p < length cs → coeff s (reverse (c ∷ cs)) p ≡ coeff s (reverse cs) p
   changes-later c cs p h = ap (λ t. coeff s t p) (reverse-cons c cs) ∙ getD-append-left (reverse cs) (c ∷ []) 𝟘 p (omega (arith, length-reverse cs))
+
+-- sums of values that agree
+pub psum-agree : {A : Type 0} (F : FieldOn A) {I : Type 0} (X : I → A) (Y Z : I → A) (ps : List I) (n : ℕ) → All (λ p. Y p ≡ Z p) ps → psum F X Y ps n ≡ psum F X Z ps n
+psum-agree F X Y Z [] n h = refl
+psum-agree F X Y Z (p ∷ ps) n h = ap₂ (λ t u. F .add (F .mul t (pow F (X p) n)) u) (h .0) (psum-agree F X Y Z ps n (h .1))
+
+module _ {S E : Type 0} (s : FieldOn S) (e : FieldOn E) (up : S → E) (L : Lifts s e up) (C : Code S E) where
+  open FieldOn e using (𝟘, 𝟙, add as _⊕_, mul as _⊗_, neg as ⊖_)
+
+  infixl 60 _⊕_
+  infixl 70 _⊗_
+  infix 80 ⊖_
+  -- the locator of a position
+  abbrev pub X : ℕ → E
+  X p = pow e (C .root) p
+
+  -- a change in the syndromes: what stands at its position of cs, times the locator's power at the first root
+  abbrev pub weight : List S → ℕ → E
+  weight cs p = up (coeff s (reverse cs) p) ⊗ pow e (X p) (C .first)
+
+  weight-later : (c : S) (cs : List S) (ps : List ℕ) → All (λ p. p < length cs) ps → All (λ p. weight cs p ≡ weight (c ∷ cs) p) ps
+  weight-later c cs ps =
+      all-map (λ p. p < length cs) (λ p. weight cs p ≡ weight (c ∷ cs) p) (λ p h. ap (λ t. up t ⊗ pow e (X p) (C .first)) (sym (changes-later s c cs p h))) ps
+
+  -- at the root's power first + j a place gives its weight times the locator's power j
+  term : (c : S) (cs : List S) (j : ℕ) → pow e (pow e (C .root) (C .first + j)) (length cs) ⊗ up c ≡ weight (c ∷ cs) (length cs) ⊗ pow e (X (length cs)) j
+  term c cs j =
+      let m = length cs in
+      let x = X m in
+      ap (λ t. t ⊗ up c) (sym (pow-mul e (C .root) (C .first + j) m) ∙ ap (pow e (C .root)) (mul-comm (C .first + j) m) ∙ pow-mul e (C .root) m (C .first + j) ∙ pow-add e x (C .first) j)
+      ∙ solve e (pow e x (C .first) ∷ pow e x j ∷ up c ∷ []) (v0 :* v1 :* v2) (v2 :* v0 :* v1) refl
+      ∙ ap (λ t. up t ⊗ pow e x (C .first) ⊗ pow e x j) (sym (changes-first s c cs))
+
+  module _ (j : ℕ) where
+    -- the sum over the positions of a list
+    abbrev sum : List S → List Bool → E
+    sum cs fs = psum e X (weight cs) (positions fs) j
+
+    abbrev x : E
+    x = pow e (C .root) (C .first + j)
+
+    -- one place more in front
+    sum-more : (c : S) (cs : List S) (f g : Bool) (fs gs : List Bool) → Told s c f g → length fs ≡ length cs → length gs ≡ length cs
+        → value s e up L cs x ≡ sum cs fs ⊕ sum cs gs → value s e up L (c ∷ cs) x ≡ sum (c ∷ cs) (f ∷ fs) ⊕ sum (c ∷ cs) (g ∷ gs)
+    sum-more c cs f g fs gs t lf lg ih =
+        value-cons s e up L c cs x
+        ∙ ap₂ _⊕_ (ih ∙ ap₂ _⊕_ (later fs lf) (later gs lg)) (term c cs j)
+        ∙ by f g t
+      where
+        -- what a position gives
+        gives : ℕ → E
+        gives m = weight (c ∷ cs) m ⊗ pow e (X m) j
+
+        later : (hs : List Bool) → length hs ≡ length cs → sum cs hs ≡ sum (c ∷ cs) hs
+        later hs h = psum-agree e X (weight cs) (weight (c ∷ cs)) (positions hs) j (weight-later c cs (positions hs) (positions-below hs (length cs) (omega arith)))
+
+        F : E
+        F = sum (c ∷ cs) fs
+
+        G : E
+        G = sum (c ∷ cs) gs
+
+        by : (f g : Bool) → Told s c f g → F ⊕ G ⊕ gives (length cs) ≡ sum (c ∷ cs) (f ∷ fs) ⊕ sum (c ∷ cs) (g ∷ gs)
+        by true true k = absurd k
+        by true false k = solve e (F ∷ G ∷ gives (length cs) ∷ []) (v0 :+ v1 :+ v2) (v2 :+ v0 :+ v1) refl ∙ ap (λ m. gives m ⊕ F ⊕ G) (sym lf)
+        by false true k = solve e (F ∷ G ∷ gives (length cs) ∷ []) (v0 :+ v1 :+ v2) (v0 :+ (v2 :+ v1)) refl ∙ ap (λ m. F ⊕ (gives m ⊕ G)) (sym lg)
+        by false false k =
+            let p = pow e (X (length cs)) (C .first) in
+            let q = pow e (X (length cs)) j in
+            ap (λ u. F ⊕ G ⊕ u ⊗ p ⊗ q) (ap up (changes-first s c cs ∙ k) ∙ up-zero s e up L)
+            ∙ solve e ((F ⊕ G) ∷ p ∷ q ∷ []) (v0 :+ :0 :* v1 :* v2) v0 refl
+
+    -- the changes of a book's row are those at its errors and at its doubted places
+    pub changes-sum : (b : Book S) (n : List S) → length n ≡ length b
+        → value s e up L (subP s (symbols b) n) x ≡ sum (subP s (symbols b) n) (wrong-places (s .discrete) b n) ⊕ sum (subP s (symbols b) n) (doubted-places b)
+    changes-sum [] [] h = sym (e .zero-add 𝟘)
+    changes-sum [] (v ∷ n) h = absurd (omega arith)
+    changes-sum (a ∷ b) [] h = absurd (omega arith)
+    changes-sum (a ∷ b) (v ∷ n) h =
+        let same : length n ≡ length b = omega arith in
+        let long : length (subP s (symbols b) n) ≡ length b = length-subP s (symbols b) n (omega (arith, length-map b (λ a. a .symbol))) ∙ length-map b (λ a. a .symbol) in
+        sum-more (s .add (a .symbol) (s .neg v)) (subP s (symbols b) n) (wrong (s .discrete) a v) (a .doubted) (wrong-places (s .discrete) b n) (doubted-places b)
+          (told s a v) (length-wrong s b n same ∙ sym long) (length-map b (λ a. a .doubted) ∙ sym long) (changes-sum b n same)

@@ -1,9 +1,10 @@
 -- The positions of the flags that are set: each once, all below the length. Assumes nothing.
-use mathlib.Core.Path.{_≡_, refl, ap}
+use mathlib.Core.Path.{_≡_, refl, ap, subst}
 use mathlib.Core.List.{List, [], _∷_, _++_}
-use mathlib.Core.Bool.{Bool, true, false}
+use mathlib.Core.Bool.{Bool, true, false, _&&_}
 use Prim.Native.Nat.{ℕ, suc, _<_, _≤_}
 use native.Mathlib.Omega.{arith}
+use lib.Dec.{T}
 use lib.ListN.{length}
 use Rattle.algebra.specs.Field.{FieldOn}
 use Rattle.algebra.specs.Series.{All, Apart, Distinct}
@@ -54,15 +55,15 @@ module _ {A : Type 0} (F : FieldOn A) (X : ℕ → A) (limit : ℕ) (apart : (p 
       (all-append (λ r. ¬ (X p ≡ X r)) ps (q ∷ qs) (all-left (λ r. ¬ (X p ≡ X r)) ps qs (d .0)) (one, all-right (λ r. ¬ (X p ≡ X r)) ps qs (d .0)), distinct-between q ps qs h (l .1) (d .1))
 
   -- two lists of flags, not both set anywhere
-  pub distinct-more : (f g : Bool) (fs gs : List Bool) → ¬ ((f ≡ true) × (g ≡ true)) → length fs ≡ length gs → length fs < limit
+  pub distinct-more : (f g : Bool) (fs gs : List Bool) → (f && g) ≡ false → length fs ≡ length gs → length fs < limit
       → Distinct F X (positions fs ++ positions gs) → Distinct F X (positions (f ∷ fs) ++ positions (g ∷ gs))
   distinct-more f g fs gs never same h d =
       let m = length fs in
       let below : All (λ p. p < m) (positions fs ++ positions gs) = all-append (λ p. p < m) (positions fs) (positions gs) (positions-below fs m (omega arith)) (positions-below gs m (omega arith)) in
       by f g never below
     where
-      by : (f g : Bool) → ¬ ((f ≡ true) × (g ≡ true)) → All (λ p. p < length fs) (positions fs ++ positions gs) → Distinct F X (positions (f ∷ fs) ++ positions (g ∷ gs))
-      by true true k below = absurd (k (refl, refl))
+      by : (f g : Bool) → (f && g) ≡ false → All (λ p. p < length fs) (positions fs ++ positions gs) → Distinct F X (positions (f ∷ fs) ++ positions (g ∷ gs))
+      by true true k below = absurd (subst T k tt)
       by true false k below = (above-apart (length fs) (positions fs ++ positions gs) h below, d)
       by false true k below = rw (← same) (distinct-between (length fs) (positions fs) (positions gs) h below d)
       by false false k below = d

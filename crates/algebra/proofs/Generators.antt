@@ -6,7 +6,8 @@ use native.Mathlib.Decide.{decLt}
 use native.Mathlib.Omega.{arith}
 use Rattle.algebra.specs.Field.{FieldOn, Numbers, Units, Cyclic, pow}
 use Rattle.algebra.proofs.Pigeonhole.{OneToOne, reaches}
-use Rattle.algebra.proofs.Orders.{one-pow, pow-mul, pow-ne-zero, order-ne-zero, powers-apart}
+use Rattle.algebra.proofs.Orders.{pow-ne-zero, order-ne-zero, powers-apart}
+use Rattle.algebra.proofs.Powers.{one-pow, pow-mul}
 
 module _ {A : Type 0} (F : FieldOn A) (N : Numbers A) (U : Units A) (C : Cyclic F N U) where
   open FieldOn F using (𝟘, 𝟙)

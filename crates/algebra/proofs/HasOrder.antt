@@ -3,13 +3,13 @@ use mathlib.Core.Path.{_≡_, refl, sym, ap, subst, _∙_}
 use mathlib.Core.Bool.{Bool, true, false}
 use mathlib.Core.List.{List, [], _∷_, _++_}
 use Prim.Native.Nat.{ℕ, zero, suc, _*_, _/_, _%_, _<_, _≤_}
-use native.Mathlib.Nat.{mul-zero, mul-suc, div-add-mod, mod-lt}
+use native.Mathlib.Nat.{div-add-mod, mod-lt}
 use native.Mathlib.Decide.{ℕ-discrete}
 use native.Mathlib.Omega.{arith}
 use lib.Dec.{eqb}
 use Rattle.std.proofs.shelf.Tests.{eq-eqb}
 use Rattle.algebra.specs.Field.{FieldOn, HasOrder, pow, keep, divisors-to}
-use Rattle.algebra.proofs.Squaring.{pow-add}
+use Rattle.algebra.proofs.Powers.{one-pow, pow-add, pow-mul}
 
 -- P holds of each number of a list
 abbrev pub All : (ℕ → Type 0) → List ℕ → Type 0
@@ -44,24 +44,14 @@ at-divisor P n (suc k) h d p l e = by (at-divisor P n k (all-kept P (eqb (n % su
         subst P (sym q) (all-last P (divisors-to n k) (suc k) (subst (λ b. All P (keep b (suc k) (divisors-to n k))) kept h))
 
 module _ {A : Type 0} (F : FieldOn A) where
-  open FieldOn F using (𝟙, mul as _⊗_, mul-comm, one-mul)
+  open FieldOn F using (𝟙, mul as _⊗_, one-mul)
 
   infixl 70 _⊗_
-  one-pow : (n : ℕ) → pow F 𝟙 n ≡ 𝟙
-  one-pow zero = refl
-  one-pow (suc n) = one-mul (pow F 𝟙 n) ∙ one-pow n
-
-  pow-mul : (x : A) (a b : ℕ) → pow F x (a * b) ≡ pow F (pow F x a) b
-  pow-mul x a zero = ap (pow F x) (mul-zero a)
-  pow-mul x a (suc b) =
-      ap (pow F x) (mul-suc a b) ∙ pow-add F x (a * b) a ∙ mul-comm (pow F x (a * b)) (pow F x a)
-      ∙ ap (λ y. pow F x a ⊗ y) (pow-mul x a b)
-
   -- x's power is ONE at what two such exponents leave
   pow-rest : (x : A) (n k : ℕ) → pow F x n ≡ 𝟙 → pow F x k ≡ 𝟙 → pow F x (n % k) ≡ 𝟙
   pow-rest x n k e f =
       sym (one-mul (pow F x (n % k)))
-      ∙ ap (λ y. y ⊗ pow F x (n % k)) (sym (pow-mul x k (n / k) ∙ ap (λ y. pow F y (n / k)) f ∙ one-pow (n / k)))
+      ∙ ap (λ y. y ⊗ pow F x (n % k)) (sym (pow-mul F x k (n / k) ∙ ap (λ y. pow F y (n / k)) f ∙ one-pow F (n / k)))
       ∙ sym (pow-add F x (k * (n / k)) (n % k)) ∙ ap (pow F x) (div-add-mod n k) ∙ e
 
   module _ (x : A) (n : ℕ) (one : pow F x n ≡ 𝟙) (apart : (d : ℕ) → 0 < d → d < n → n % d ≡ 0 → ¬ (pow F x d ≡ 𝟙)) where

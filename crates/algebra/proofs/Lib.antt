@@ -1,3 +1,4 @@
+pub mod Berlekamp
 pub mod Carried
 pub mod Changes
 pub mod Computed
@@ -10,13 +11,18 @@ pub mod Generators
 pub mod HasOrder
 pub mod Laws
 pub mod Lifted
+pub mod Massey
 pub mod Orders
 pub mod Pigeonhole
 pub mod Poly
+pub mod Powers
 pub mod Quadratic
 pub mod Remainder
 pub mod Residue
 pub mod Sealing
+pub mod Series
 pub mod Solver
 pub mod Squaring
 pub mod Syndromes
+pub mod Tab
+pub mod Updates

@@ -118,6 +118,11 @@ module _ {A : Type 0} (F : FieldOn A) where
   pub coeff-subP : (p q : List A) (n : ℕ) → coeff F (subP F p q) n ≡ coeff F p n ⊕ ⊖ coeff F q n
   coeff-subP p q n = coeff-addP p (map (λ a. ⊖ a) q) n ∙ ap (λ t. coeff F p n ⊕ t) (coeff-neg q n)
 
+  pub coeff-zeros : (k n : ℕ) → coeff F (replicate k 𝟘) n ≡ 𝟘
+  coeff-zeros zero n = refl
+  coeff-zeros (suc k) zero = refl
+  coeff-zeros (suc k) (suc n) = coeff-zeros k n
+
   pub coeff-high : (p : List A) (n : ℕ) → length p ≤ n → coeff F p n ≡ 𝟘
   coeff-high [] n h = refl
   coeff-high (a ∷ p) zero h = absurd (omega arith)

@@ -9,7 +9,7 @@ use Rattle.algebra.specs.Poly.{coeff, eval, addP, scaleP, subP, mulP}
 use Rattle.algebra.specs.Code.{Code, checks, rest, top, modulo, one, residue-from, residue}
 use Rattle.algebra.specs.Remainder.{Remainder}
 use Rattle.algebra.proofs.Laws.{ring, add-zero, mul-one, mul-zero, add-cancel, sub-zero}
-use Rattle.algebra.proofs.Poly.{addP-assoc, addP-comm, coeff-addP, coeff-high, coeff-mulP, list-ext, mulP-zero, mulP-subP}
+use Rattle.algebra.proofs.Poly.{coeff-zeros, addP-assoc, addP-comm, coeff-addP, coeff-high, coeff-mulP, list-ext, mulP-zero, mulP-subP}
 use Rattle.algebra.proofs.Eval.{eval-addP, eval-mulP, eval-coeff}
 use Rattle.algebra.proofs.Residue.{length-rest, rest-top, length-modulo, length-one}
 
@@ -62,18 +62,13 @@ module _ {S : Type 0} (F : FieldOn S) where
   remainder-from lower p r [] h = h
   remainder-from lower p r (v ∷ row) h = remainder-from lower (v ∷ p) (modulo F lower (v ∷ r)) row (remainder-step lower p r v h)
 
-  coeff-zeros : (k n : ℕ) → coeff F (replicate k 𝟘) n ≡ 𝟘
-  coeff-zeros zero n = refl
-  coeff-zeros (suc k) zero = refl
-  coeff-zeros (suc k) (suc n) = coeff-zeros k n
-
   remainder-one : (lower : List S) → 1 ≤ length lower → Remainder F lower (𝟙 ∷ []) (one F (length lower))
   remainder-one [] h = absurd (omega arith)
   remainder-one (b ∷ lower) h = record { quotient = []; size = length-one F (suc (length lower)); splits = split }
     where
       split : (n : ℕ) → coeff F (𝟙 ∷ []) n ≡ coeff F (𝟙 ∷ replicate (length lower) 𝟘) n
       split zero = refl
-      split (suc n) = sym (coeff-zeros (length lower) n)
+      split (suc n) = sym (coeff-zeros F (length lower) n)
 
   -- the row's polynomial has a leading 1, then the row's symbols, highest power first
   pub residue-remainder : {E : Type 0} (C : Code S E) → 1 ≤ checks C → (row : List S) → Remainder F (C .lower) (reverse (𝟙 ∷ row)) (residue F C row)

@@ -2,20 +2,16 @@
 use mathlib.Core.Path.{_≡_, refl, sym, ap, _∙_}
 use mathlib.Core.Bool.{Bool, true, false}
 use Prim.Native.Nat.{ℕ, zero, suc, _+_, _/_, _%_, _≤_}
-use native.Mathlib.Nat.{zero-add, suc-add}
 use native.Mathlib.Omega.{arith}
 use lib.Dec.{eqb}
 use Rattle.std.proofs.shelf.Tests.{eqb-true, eqb-false}
 use Rattle.algebra.specs.Field.{FieldOn, pow}
+use Rattle.algebra.proofs.Powers.{pow-add}
 
 module _ {A : Type 0} (F : FieldOn A) where
-  open FieldOn F using (𝟙, mul as _⊗_, mul-assoc, one-mul)
+  open FieldOn F using (𝟙, mul as _⊗_)
 
   infixl 70 _⊗_
-  pub pow-add : (x : A) (a b : ℕ) → pow F x (a + b) ≡ pow F x a ⊗ pow F x b
-  pow-add x zero b = ap (pow F x) (zero-add b) ∙ sym (one-mul (pow F x b))
-  pow-add x (suc a) b = ap (pow F x) (suc-add a b) ∙ ap (λ y. x ⊗ y) (pow-add x a b) ∙ sym (mul-assoc x (pow F x a) (pow F x b))
-
   -- x to the power n, for n at most k
   unfoldable pub squaring : ℕ → A → ℕ → A
   squaring k x zero = 𝟙
@@ -23,7 +19,7 @@ module _ {A : Type 0} (F : FieldOn A) where
   squaring (suc k) x (suc n) = let s = squaring k x (suc n / 2) in elim (eqb (suc n % 2) 0) [ true ↦ s ⊗ s | false ↦ x ⊗ (s ⊗ s) ]
 
   square-is : (x s : A) (n : ℕ) → s ≡ pow F x n → s ⊗ s ≡ pow F x (n + n)
-  square-is x s n e = ap (λ t. t ⊗ t) e ∙ sym (pow-add x n n)
+  square-is x s n e = ap (λ t. t ⊗ t) e ∙ sym (pow-add F x n n)
 
   squaring-step : (x s : A) (n : ℕ) → s ≡ pow F x (n / 2) → (b : Bool) → eqb (n % 2) 0 ≡ b → elim b [ true ↦ s ⊗ s | false ↦ x ⊗ (s ⊗ s) ] ≡ pow F x n
   squaring-step x s n e true t =

@@ -10,7 +10,7 @@ use Rattle.algebra.specs.Code.{Lawful, generator}
 use Rattle.algebra.proofs.Carried.{carried}
 use Rattle.algebra.proofs.Computed.{order-is}
 use Rattle.algebra.proofs.Orders.{order-ne-zero}
-use Rattle.algebra.proofs.HasOrder.{squaring}
+use Rattle.algebra.proofs.Squaring.{squaring}
 use Rattle.algebra.proofs.Quadratic.{quadratic}
 use Rattle.gf32.specs.Binary.{product}
 use Rattle.gf32.specs.Every.{at}

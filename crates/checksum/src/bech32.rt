@@ -10,7 +10,9 @@ use gf32_ext::fe1024::arithmetic::Fe1024Field;
 use gf32_ext::fe1024::arithmetic::Fe1024OverFe32;
 
 const CHECKSUM_LENGTH: usize = 6;
+
 const CODE_LENGTH: usize = 89;
+
 const ROOT_EXPONENTS: (usize, usize) = (24, 26);
 
 /// The name of the sheet code. It has no value: a code is an argument of type.
@@ -18,6 +20,7 @@ pub enum Bech32 {}
 
 pub impl Checksum for Bech32 as Bech32Checksum {
     type SymbolField = Fe32;
+
     type CorrectionField = Fe1024;
 
     ghost code = { sheet };
@@ -49,7 +52,10 @@ pub impl Checksum for Bech32 as Bech32Checksum {
 
     // 1 + 6ζ
     fn root_generator() -> Fe1024 {
-        Fe1024 { c0: Fe32::P, c1: Fe32::X }
+        Fe1024 {
+            c0: Fe32::P,
+            c1: Fe32::X,
+        }
     }
 
     fn root_exponents() -> (usize, usize) {

@@ -2,12 +2,14 @@
 ghost use mathlib.Core.Path.{_≡_};
 ghost use Rattle.checksum.specs.Finish.{finish};
 use crate::checksum::Checksum;
+use gf32::gf32::Fe32;
 use gf32::gf32::arithmetic::Fe32Field;
 use gf32::gf32::arithmetic::Fe32OverItself;
-use gf32::gf32::Fe32;
 
 const CHECKSUM_LENGTH: usize = 4;
+
 const CODE_LENGTH: usize = 31;
+
 const ROOT_EXPONENTS: (usize, usize) = (1, 4);
 
 /// The name of the finish code. It has no value: a code is an argument of type.
@@ -15,6 +17,7 @@ pub enum Finish {}
 
 pub impl Checksum for Finish as FinishChecksum {
     type SymbolField = Fe32;
+
     type CorrectionField = Fe32;
 
     ghost code = { finish };

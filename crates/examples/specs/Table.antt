@@ -2,9 +2,12 @@
 use mathlib.Core.List.{List, [], _∷_, map}
 use Prim.Native.Nat.{ℕ}
 use Rattle.algebra.specs.Code.{seal}
+use Rattle.algebra.specs.Field.{pow}
 use Rattle.checksum.specs.Finish.{finish}
 use Rattle.gf32.specs.Gf32.{gf32, gf32-numbers}
 use Rattle.gf32.specs.declared.gf32.Fe32.{Fe32}
+use Rattle.gf32_ext.specs.Gf1024.{gf1024, fe1024}
+use Rattle.gf32_ext.specs.declared.fe1024.Fe1024.{Fe1024}
 
 abbrev element : ℕ → Fe32
 element = gf32-numbers .element
@@ -12,13 +15,23 @@ element = gf32-numbers .element
 abbrev numbers : List Fe32 → List ℕ
 numbers = map (gf32-numbers .number)
 
+-- 1 + 6ζ
+abbrev pub one-six : Fe1024
+one-six = fe1024 (element 1) (element 6)
+
+abbrev coefficients : Fe1024 → List ℕ
+coefficients x = numbers (x .c0 ∷ x .c1 ∷ [])
+
 abbrev pub computed : List (List ℕ)
 computed =
     -- a product in GF(32)
     numbers (gf32 .mul (element 6) (element 24) ∷ [])
     -- the check symbols of a row by the finish code
     ∷ numbers (seal gf32 finish (map element (4 ∷ 20 ∷ 20 ∷ 12 ∷ 15 ∷ 31 ∷ 0 ∷ 6 ∷ [])))
+    -- two powers of 1 + 6ζ in GF(1024), by their coefficients
+    ∷ coefficients (pow gf1024 one-six 24)
+    ∷ coefficients (pow gf1024 one-six 341)
     ∷ []
 
 abbrev pub expected : List (List ℕ)
-expected = (2 ∷ []) ∷ (10 ∷ 17 ∷ 15 ∷ 18 ∷ []) ∷ []
+expected = (2 ∷ []) ∷ (10 ∷ 17 ∷ 15 ∷ 18 ∷ []) ∷ (12 ∷ 24 ∷ []) ∷ (1 ∷ 1 ∷ []) ∷ []

@@ -11,7 +11,7 @@ use Rattle.std.specs.Numbers.{Checked}
 use Rattle.std.specs.declared.option.Option.{Option}
 use Rattle.std.specs.declared.option.Option.the-variants.{Some, None}
 use Rattle.algebra.specs.Field.{FieldOn, pow}
-use Rattle.algebra.proofs.Orders.{pow-add}
+use Rattle.algebra.proofs.Powers.{pow-add}
 use Rattle.field.specs.declared.cursor.Powers.{Powers}
 use Rattle.field.specs.declared.cursor.PowersRange.{PowersRange}
 use Rattle.algebra.specs.Poly.{tab}

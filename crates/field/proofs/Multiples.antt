@@ -7,6 +7,7 @@ use lib.Signed.{remZ}
 use mir.Syntax.{w64}
 use mir.Val.{ofZ}
 use Rattle.algebra.specs.Field.{FieldOn, Doubling, multiple, multipleℤ}
+use Rattle.algebra.proofs.Laws.{add-zero, neg-zero}
 
 -- the remainder's bits, as the code tests them, are 0 exactly for an even number
 pub even-bits : (n : ℤ) → ofZ w64 (remZ n (pos 2)) ≡ 0 → natAbs n % 2 ≡ 0
@@ -32,26 +33,20 @@ module _ {A : Type 0} (F : FieldOn A) (twice : Doubling F) (x : A) where
       sym (F .add-assoc x x (multiple F x n)) ∙ ap (λ y. F .add y (multiple F x n)) (twice x) ∙ F .zero-add (multiple F x n)
       ∙ multiple-parity n ∙ ap (multiple F x) same
 
-  neg-zero : F .neg (F .𝟘) ≡ F .𝟘
-  neg-zero = sym (F .zero-add (F .neg (F .𝟘))) ∙ F .add-neg (F .𝟘)
-
-  add-zero : F .add x (F .𝟘) ≡ x
-  add-zero = F .add-comm x (F .𝟘) ∙ F .zero-add x
-
   neg-same : F .neg x ≡ x
   neg-same =
       sym (F .zero-add (F .neg x)) ∙ ap (λ y. F .add y (F .neg x)) (sym (twice x)) ∙ F .add-assoc x x (F .neg x)
-      ∙ ap (F .add x) (F .add-neg x) ∙ add-zero
+      ∙ ap (F .add x) (F .add-neg x) ∙ add-zero F x
 
   multiple-even : (n : ℕ) → n % 2 ≡ 0 → multiple F x n ≡ F .𝟘
   multiple-even n h = multiple-parity n ∙ ap (multiple F x) h
 
   multiple-odd : (n : ℕ) → n % 2 ≡ 1 → multiple F x n ≡ x
-  multiple-odd n h = multiple-parity n ∙ ap (multiple F x) h ∙ add-zero
+  multiple-odd n h = multiple-parity n ∙ ap (multiple F x) h ∙ add-zero F x
 
   pub multipleℤ-even : (n : ℤ) → natAbs n % 2 ≡ 0 → multipleℤ F x n ≡ F .𝟘
   multipleℤ-even (pos n) h = multiple-even n h
-  multipleℤ-even (negsuc n) h = ap (F .neg) (multiple-even (suc n) h) ∙ neg-zero
+  multipleℤ-even (negsuc n) h = ap (F .neg) (multiple-even (suc n) h) ∙ neg-zero F
 
   pub multipleℤ-odd : (n : ℤ) → natAbs n % 2 ≡ 1 → multipleℤ F x n ≡ x
   multipleℤ-odd (pos n) h = multiple-odd n h

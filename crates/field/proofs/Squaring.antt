@@ -4,7 +4,8 @@ use mathlib.Core.Logic.{_⊎_, inl, inr}
 use Prim.Native.Nat.{ℕ, suc, _+_, _/_, _%_}
 use native.Mathlib.Omega.{arith}
 use Rattle.algebra.specs.Field.{FieldOn, pow}
-use Rattle.algebra.proofs.Orders.{mul-one, pow-add, mul-pow}
+use Rattle.algebra.proofs.Laws.{mul-one}
+use Rattle.algebra.proofs.Powers.{pow-add, mul-pow}
 
 module _ {A : Type 0} (F : FieldOn A) where
   open FieldOn F using (𝟙, mul as _⊗_, mul-assoc, one-mul)

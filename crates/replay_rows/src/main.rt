@@ -47,12 +47,20 @@ fn write_symbols(heap: Global, symbols: &[Fe32]) -> Result<String, AnyError> {
     Ok(text)
 }
 
-fn answer_by<C: Checksum<SymbolField = Fe32>>(heap: Global, letter: &str, row: &[Fe32]) -> Result<String, AnyError> {
+fn answer_by<C: Checksum<SymbolField = Fe32>>(
+    heap: Global,
+    letter: &str,
+    row: &[Fe32],
+) -> Result<String, AnyError> {
     match letter {
         "E" => write_symbols(heap, Engine::<C>::of_row(row).residue()),
         "S" => {
             let checks = seal::<C>(row);
-            let checks: Vec<Fe32> = checks.iter().take(C::checksum_length()).copied().collect(heap)?;
+            let checks: Vec<Fe32> = checks
+                .iter()
+                .take(C::checksum_length())
+                .copied()
+                .collect(heap)?;
             write_symbols(heap, checks.as_slice())
         }
         _ => Err("an unknown command".into()),

@@ -30,17 +30,24 @@ fn sealed_row(symbols: &[u8; 8]) -> [u8; 12]
     ensures { λ r. ⌜ r ≡ sealedRow (now (symbols .entry)) ⌝ }
 {
     let [a, b, c, d, e, f, g, h] = *symbols;
-    let checks = seal::<Finish>(&[
-        element(a),
-        element(b),
-        element(c),
-        element(d),
-        element(e),
-        element(f),
-        element(g),
-        element(h),
-    ]);
-    let [p, q, r, s] = [number(checks[0]), number(checks[1]), number(checks[2]), number(checks[3])];
+    let checks = seal::<Finish>(
+        &[
+            element(a),
+            element(b),
+            element(c),
+            element(d),
+            element(e),
+            element(f),
+            element(g),
+            element(h),
+        ],
+    );
+    let [p, q, r, s] = [
+        number(checks[0]),
+        number(checks[1]),
+        number(checks[2]),
+        number(checks[3]),
+    ];
     [a, b, c, d, e, f, g, h, p, q, r, s]
 }
 

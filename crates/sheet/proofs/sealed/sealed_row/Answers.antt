@@ -23,8 +23,8 @@ returns c =
     let eight : length xs ≡ 8 = search needs in
     let row = listed xs 0 8 (sym eight) in
     let given : List Fe32 =
-          c .element .result ∷ c .element-2 .result ∷ c .element-3 .result ∷ c .element-4 .result
-          ∷ c .element-5 .result ∷ c .element-6 .result ∷ c .element-7 .result ∷ c .element-8 .result ∷ [] in
+    c .element .result ∷ c .element-2 .result ∷ c .element-3 .result ∷ c .element-4 .result
+    ∷ c .element-5 .result ∷ c .element-6 .result ∷ c .element-7 .result ∷ c .element-8 .result ∷ [] in
     let lifted : given ≡ map E xs = (let e : given ≡ map E (entries xs 0 8 0) = cc in e) ∙ ap (map E) (sym row) in
     let cs = seal gf32 finish given in
     let four : length cs ≡ 4 = c .seal-checks .ensures .seals .as-many ∙ four-checks in

@@ -15,6 +15,6 @@ unfolding sheet gf32
 returns c =
     let at : ℕ → ℕ = λ n. coeff gf32 (one gf32 6) n .value in
     elim (c .match-power .came) [
-      in-0 w ↦ fe-path _ _ (ap (λ r. r .0) (w .result-is) ∙ sym (ap at (w .in-0 .is)))
-    | in-rest w ↦ fe-path _ _ (ap (λ r. r .0) (w .result-is) ∙ sym (ap (λ (x : Fe32). x .value) (coeff-one-above gf32 6 (c .args .power) (λ e. omega arith))))
+      | in-0 w ↦ fe-path _ _ (ap (λ r. r .0) (w .result-is) ∙ sym (ap at (w .in-0 .is)))
+      | in-rest w ↦ fe-path _ _ (ap (λ r. r .0) (w .result-is) ∙ sym (ap (λ (x : Fe32). x .value) (coeff-one-above gf32 6 (c .args .power) (λ e. omega arith))))
     ]

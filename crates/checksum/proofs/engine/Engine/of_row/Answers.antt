@@ -12,7 +12,7 @@ returns g c =
     let code = g .C·Checksum .code in
     let row = c .args .row .now in
     let is : held code (c .input-row .last .self .entries) ≡ residue F code row =
-          c .input-row .ensures ∙ ap (λ r. residue-from F (code .lower) r row) (c .new-engine .ensures) in
+    c .input-row .ensures ∙ ap (λ r. residue-from F (code .lower) r row) (c .new-engine .ensures) in
     record {
       residue = is;
       remainder = subst (Remainder F (code .lower) (reverse (F .𝟙 ∷ row))) (sym is) (residue-remainder F code (c .laws .ensures .lawful .some-checks) row);
