@@ -51,6 +51,9 @@ module _ {S : Type 0} (s : FieldOn S) where
   length-wrong (a ∷ b) [] h = absurd (omega arith)
   length-wrong (a ∷ b) (v ∷ n) h = ap suc (length-wrong b n (omega arith))
 
+  pub length-changes : (b : Book S) (n : List S) → length n ≡ length b → length (subP s (symbols b) n) ≡ length b
+  length-changes b n h = let l = length-map b (λ a. a .symbol) in length-subP s (symbols b) n (omega arith) ∙ l
+
   -- the changes with one place more in front
   pub changes-first : (c : S) (cs : List S) → coeff s (reverse (c ∷ cs)) (length cs) ≡ c
   changes-first c cs = ap (λ t. coeff s t (length cs)) (reverse-cons c cs) ∙ getD-push (reverse cs) c 𝟘 (length cs) (length-reverse cs)
@@ -63,6 +66,10 @@ pub psum-agree : {A : Type 0} (F : FieldOn A) {I : Type 0} (X : I → A) (Y Z : 
 psum-agree F X Y Z [] n h = refl
 psum-agree F X Y Z (p ∷ ps) n h = ap₂ (λ t u. F .add (F .mul t (pow F (X p) n)) u) (h .0) (psum-agree F X Y Z ps n (h .1))
 
+-- a change in the syndromes: what stands at its position of cs, times the locator's power at the first root
+abbrev pub weight : {S E : Type 0} → FieldOn S → FieldOn E → (S → E) → Code S E → List S → ℕ → E
+weight s e up C cs p = e .mul (up (coeff s (reverse cs) p)) (pow e (pow e (C .root) p) (C .first))
+
 module _ {S E : Type 0} (s : FieldOn S) (e : FieldOn E) (up : S → E) (L : Lifts s e up) (C : Code S E) where
   open FieldOn e using (𝟘, 𝟙, add as _⊕_, mul as _⊗_, neg as ⊖_)
 
@@ -70,19 +77,18 @@ module _ {S E : Type 0} (s : FieldOn S) (e : FieldOn E) (up : S → E) (L : Lift
   infixl 70 _⊗_
   infix 80 ⊖_
   -- the locator of a position
-  abbrev pub X : ℕ → E
+  abbrev X : ℕ → E
   X p = pow e (C .root) p
 
-  -- a change in the syndromes: what stands at its position of cs, times the locator's power at the first root
-  abbrev pub weight : List S → ℕ → E
-  weight cs p = up (coeff s (reverse cs) p) ⊗ pow e (X p) (C .first)
+  abbrev W : List S → ℕ → E
+  W cs p = weight s e up C cs p
 
-  weight-later : (c : S) (cs : List S) (ps : List ℕ) → All (λ p. p < length cs) ps → All (λ p. weight cs p ≡ weight (c ∷ cs) p) ps
+  pub weight-later : (c : S) (cs : List S) (ps : List ℕ) → All (λ p. p < length cs) ps → All (λ p. W cs p ≡ W (c ∷ cs) p) ps
   weight-later c cs ps =
-      all-map (λ p. p < length cs) (λ p. weight cs p ≡ weight (c ∷ cs) p) (λ p h. ap (λ t. up t ⊗ pow e (X p) (C .first)) (sym (changes-later s c cs p h))) ps
+      all-map (λ p. p < length cs) (λ p. W cs p ≡ W (c ∷ cs) p) (λ p h. ap (λ t. up t ⊗ pow e (X p) (C .first)) (sym (changes-later s c cs p h))) ps
 
   -- at the root's power first + j a place gives its weight times the locator's power j
-  term : (c : S) (cs : List S) (j : ℕ) → pow e (pow e (C .root) (C .first + j)) (length cs) ⊗ up c ≡ weight (c ∷ cs) (length cs) ⊗ pow e (X (length cs)) j
+  term : (c : S) (cs : List S) (j : ℕ) → pow e (pow e (C .root) (C .first + j)) (length cs) ⊗ up c ≡ W (c ∷ cs) (length cs) ⊗ pow e (X (length cs)) j
   term c cs j =
       let m = length cs in
       let x = X m in
@@ -93,7 +99,7 @@ module _ {S E : Type 0} (s : FieldOn S) (e : FieldOn E) (up : S → E) (L : Lift
   module _ (j : ℕ) where
     -- the sum over the positions of a list
     abbrev sum : List S → List Bool → E
-    sum cs fs = psum e X (weight cs) (positions fs) j
+    sum cs fs = psum e X (W cs) (positions fs) j
 
     abbrev x : E
     x = pow e (C .root) (C .first + j)
@@ -108,10 +114,10 @@ module _ {S E : Type 0} (s : FieldOn S) (e : FieldOn E) (up : S → E) (L : Lift
       where
         -- what a position gives
         gives : ℕ → E
-        gives m = weight (c ∷ cs) m ⊗ pow e (X m) j
+        gives m = W (c ∷ cs) m ⊗ pow e (X m) j
 
         later : (hs : List Bool) → length hs ≡ length cs → sum cs hs ≡ sum (c ∷ cs) hs
-        later hs h = psum-agree e X (weight cs) (weight (c ∷ cs)) (positions hs) j (weight-later c cs (positions hs) (positions-below hs (length cs) (omega arith)))
+        later hs h = psum-agree e X (W cs) (W (c ∷ cs)) (positions hs) j (weight-later c cs (positions hs) (positions-below hs (length cs) (omega arith)))
 
         F : E
         F = sum (c ∷ cs) fs
@@ -137,6 +143,6 @@ module _ {S E : Type 0} (s : FieldOn S) (e : FieldOn E) (up : S → E) (L : Lift
     changes-sum (a ∷ b) [] h = absurd (omega arith)
     changes-sum (a ∷ b) (v ∷ n) h =
         let same : length n ≡ length b = omega arith in
-        let long : length (subP s (symbols b) n) ≡ length b = length-subP s (symbols b) n (omega (arith, length-map b (λ a. a .symbol))) ∙ length-map b (λ a. a .symbol) in
+        let long = length-changes s b n same in
         sum-more (s .add (a .symbol) (s .neg v)) (subP s (symbols b) n) (wrong (s .discrete) a v) (a .doubted) (wrong-places (s .discrete) b n) (doubted-places b)
           (told s a v) (length-wrong s b n same ∙ sym long) (length-map b (λ a. a .doubted) ∙ sym long) (changes-sum b n same)

@@ -26,6 +26,10 @@ pub all-right : {I : Type 0} (P : I → Type 0) (ps qs : List I) → All P (ps +
 all-right P [] qs h = h
 all-right P (p ∷ ps) qs h = all-right P ps qs (h .1)
 
+pub all-both : {I : Type 0} (P Q R : I → Type 0) (ps : List I) → ((p : I) → P p → Q p → R p) → All P ps → All Q ps → All R ps
+all-both P Q R [] f h k = tt
+all-both P Q R (p ∷ ps) f h k = (f p (h .0) (k .0), all-both P Q R ps f (h .1) (k .1))
+
 -- what holds of each member and of none: there is none
 pub all-none : {I : Type 0} (P : I → Type 0) (ps : List I) → All P ps → All (λ p. ¬ P p) ps → ps ≡ []
 all-none P [] h k = refl

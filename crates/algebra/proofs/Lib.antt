@@ -7,11 +7,13 @@ pub mod CubicInverse
 pub mod Divisors
 pub mod Eval
 pub mod Flags
+pub mod Garbled
 pub mod Generators
 pub mod HasOrder
 pub mod Laws
 pub mod Lifted
 pub mod Massey
+pub mod Near
 pub mod Orders
 pub mod Pigeonhole
 pub mod Poly
