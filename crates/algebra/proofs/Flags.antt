@@ -9,6 +9,7 @@ use lib.ListN.{length}
 use Rattle.algebra.specs.Field.{FieldOn}
 use Rattle.algebra.specs.Series.{All, Apart, Distinct}
 use Rattle.algebra.specs.Rows.{count, positions}
+use Rattle.algebra.proofs.Members.{all-left, all-right}
 
 pub all-map : {I : Type 0} (P Q : I → Type 0) → ((p : I) → P p → Q p) → (ps : List I) → All P ps → All Q ps
 all-map P Q f [] h = tt
@@ -17,18 +18,6 @@ all-map P Q f (p ∷ ps) h = (f p (h .0), all-map P Q f ps (h .1))
 pub all-append : {I : Type 0} (P : I → Type 0) (ps qs : List I) → All P ps → All P qs → All P (ps ++ qs)
 all-append P [] qs h k = k
 all-append P (p ∷ ps) qs h k = (h .0, all-append P ps qs (h .1) k)
-
-pub all-left : {I : Type 0} (P : I → Type 0) (ps qs : List I) → All P (ps ++ qs) → All P ps
-all-left P [] qs h = tt
-all-left P (p ∷ ps) qs h = (h .0, all-left P ps qs (h .1))
-
-pub all-right : {I : Type 0} (P : I → Type 0) (ps qs : List I) → All P (ps ++ qs) → All P qs
-all-right P [] qs h = h
-all-right P (p ∷ ps) qs h = all-right P ps qs (h .1)
-
-pub all-both : {I : Type 0} (P Q R : I → Type 0) (ps : List I) → ((p : I) → P p → Q p → R p) → All P ps → All Q ps → All R ps
-all-both P Q R [] f h k = tt
-all-both P Q R (p ∷ ps) f h k = (f p (h .0) (k .0), all-both P Q R ps f (h .1) (k .1))
 
 -- what holds of each member and of none: there is none
 pub all-none : {I : Type 0} (P : I → Type 0) (ps : List I) → All P ps → All (λ p. ¬ P p) ps → ps ≡ []

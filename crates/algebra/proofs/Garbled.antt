@@ -3,7 +3,7 @@ use mathlib.Core.Path.{_≡_, refl, sym, ap, ap₂, _∙_}
 use mathlib.Core.List.{List, [], _∷_, _++_, reverse}
 use mathlib.Core.Bool.{Bool, true, false}
 use mathlib.Core.Logic.{_⊎_, inl, inr}
-use Prim.Native.Nat.{ℕ, zero, suc, _+_, _-_, _<_, _≤_}
+use Prim.Native.Nat.{ℕ, zero, suc, _+_, _-_, _*_, _<_, _≤_}
 use native.Mathlib.Omega.{arith}
 use native.Mathlib.Decide.{decLt}
 use lib.ListN.{length, length-map}
@@ -12,13 +12,17 @@ use Rattle.algebra.specs.Field.{FieldOn, Lifts, pow}
 use Rattle.algebra.specs.Poly.{coeff, subP}
 use Rattle.algebra.specs.Series.{All, Distinct, psum}
 use Rattle.algebra.specs.Code.{Code, Lawful, bound, Sound}
-use Rattle.algebra.specs.Rows.{Place, Book, symbols, doubted-places, wrong, wrong-places, positions, changes, at-root}
+use Rattle.algebra.specs.Decode.{Garbled}
+use Rattle.algebra.specs.Rows.{Place, Book, symbols, doubted-places, wrong, wrong-places, positions, Near, syndrome, error-positions, doubted-positions}
 use Rattle.algebra.proofs.Laws.{mul-one, mul-zero, mul-add, mul-neg, add-neg, factor-zero, mul-ne-zero, sub-zero}
 use Rattle.algebra.proofs.Lifted.{up-ne-zero}
 use Rattle.algebra.proofs.Powers.{pow-add}
 use Rattle.algebra.proofs.Orders.{pow-ne-zero}
-use Rattle.algebra.proofs.Flags.{all-both, positions-below, distinct-more}
-use Rattle.algebra.proofs.Changes.{Told, told, never-both, length-wrong, length-changes, changes-first, weight, weight-later}
+use Rattle.algebra.proofs.Members.{all-both}
+use Rattle.algebra.proofs.Flags.{positions-below, length-positions, distinct-more}
+use Rattle.algebra.proofs.Changes.{Told, told, never-both, length-wrong, length-changes, changes-first, weight, weight-later, changes-sum}
+use Rattle.algebra.proofs.Syndromes.{syndromes-of-changes}
+use Rattle.algebra.proofs.PowerSums.{psum-append}
 
 module _ {S E : Type 0} (s : FieldOn S) (e : FieldOn E) (up : S → E) (L : Lifts s e up) (C : Code S E) (lawful : Lawful s e up C) where
   open FieldOn e using (𝟘, 𝟙, add as _⊕_, mul as _⊗_, neg as ⊖_)
@@ -91,3 +95,22 @@ module _ {S E : Type 0} (s : FieldOn S) (e : FieldOn E) (up : S → E) (L : Lift
       let same : length n ≡ length b = omega arith in
       weights-more (s .add (a .symbol) (s .neg v)) (subP s (symbols b) n) (wrong (s .discrete) a v) (a .doubted) (wrong-places (s .discrete) b n)
         (told s a v) (length-wrong s b n same ∙ sym (length-changes s b n same)) (weights-ne-zero b n same)
+
+  -- the syndromes of a book's row, seen from a sound row, are sums over the errors and the doubted places
+  pub syndrome-sums : (b : Book S) (n : List S) → Sound s C n → length n ≡ length b → (j : ℕ) → j < bound C
+      → syndrome s e up C (symbols b) j ≡ psum e X (weight s e up C (subP s (symbols b) n)) (error-positions s e up C b n ++ doubted-positions s e up C b) j
+  syndrome-sums b n sound same j h =
+      let first = lawful .exponents in
+      syndromes-of-changes s e up L C lawful (symbols b) n sound (length-map b (λ a. a .symbol) ∙ sym same) (C .first + j) (omega arith) (omega arith)
+      ∙ changes-sum s e up L C j b n same
+      ∙ sym (psum-append e X (weight s e up C (subP s (symbols b) n)) (error-positions s e up C b n) (doubted-positions s e up C b) j)
+
+  pub garbled : (b : Book S) (n : List S) → length b ≤ C .limit → Near s C b n
+      → Garbled e X (error-positions s e up C b n) (doubted-positions s e up C b) (weight s e up C (subP s (symbols b) n)) (syndrome s e up C (symbols b)) (bound C)
+  garbled b n short near =
+      record {
+        distinct = places-distinct b n (near .same-length) short;
+        changed = weights-ne-zero b n (near .same-length);
+        sums = syndrome-sums b n (near .sound) (near .same-length);
+        within = omega (arith, length-positions (wrong-places (s .discrete) b n), length-positions (doubted-places b))
+      }

@@ -4,6 +4,9 @@ pub mod Changes
 pub mod Computed
 pub mod Cubic
 pub mod CubicInverse
+pub mod Derivative
+pub mod Distinct
+pub mod Distance
 pub mod Divisors
 pub mod Eval
 pub mod Flags
@@ -12,7 +15,9 @@ pub mod Generators
 pub mod HasOrder
 pub mod Laws
 pub mod Lifted
+pub mod Linear
 pub mod Massey
+pub mod Members
 pub mod Near
 pub mod Orders
 pub mod Pigeonhole

@@ -2,9 +2,9 @@ pub mod Field
 pub mod Poly
 pub mod Code
 pub mod Remainder
-pub mod Rows
 pub mod Pair
 pub mod Triple
 pub mod Series
 pub mod Register
 pub mod Decode
+pub mod Rows

@@ -9,14 +9,19 @@
 --   changes           the polynomial of the changes from one row to another
 --   at-root           a polynomial over the symbols, lifted, at a power of the root
 --   syndrome          the residue less the target at a root
+--   Mended            decoding by the syndromes finds the differences from a row
 use mathlib.Core.Path.{_≡_}
-use mathlib.Core.List.{List, [], _∷_, map, reverse}
+use mathlib.Core.List.{List, [], _∷_, _++_, map, reverse}
 use mathlib.Core.Bool.{Bool, true, false, not, _&&_}
 use Prim.Native.Nat.{ℕ, zero, suc, _+_, _*_, _<_, _≤_}
 use lib.ListN.{length}
-use Rattle.algebra.specs.Field.{FieldOn, pow}
-use Rattle.algebra.specs.Poly.{eval, subP}
+use Rattle.std.specs.declared.option.Option.{Option}
+use Rattle.std.specs.declared.option.Option.the-variants.{Some}
+use Rattle.algebra.specs.Field.{FieldOn, Drops, pow}
+use Rattle.algebra.specs.Poly.{coeff, eval, subP}
 use Rattle.algebra.specs.Code.{Code, bound, residue, Sound}
+use Rattle.algebra.specs.Series.{Mem, Apart, locator}
+use Rattle.algebra.specs.Decode.{error-locator, slope-at, change-at}
 
 abbrev pub count : List Bool → ℕ
 count [] = 0
@@ -113,3 +118,52 @@ module _ {S E : Type 0} (s : FieldOn S) (e : FieldOn E) (up : S → E) (C : Code
   -- A row near a book with one more place doubted is the row that was near before.
   abbrev pub OneMoreDoubt : Type 0
   OneMoreDoubt = (b : Book S) (p : ℕ) (n m : List S) → length b ≤ C .limit → Near s C b n → Near s C (mark p b) m → m ≡ n
+
+  -- S(j): the residue less the target at the generator's root number j, counted from 0
+  abbrev pub syndrome : List S → ℕ → E
+  syndrome row j = at-root (subP s (residue s C row) (C .target)) (C .first + j)
+
+  -- the locator of a position
+  abbrev pub locator-of : ℕ → E
+  locator-of p = pow e (C .root) p
+
+  -- what decoding finds by the syndromes of a book, its doubted places being erased: the locator of its errors, the
+  -- derivative at a position, and the change there, Forney's value less the locator's power at the first root
+  module _ (b : Book S) where
+    abbrev pub doubted-positions : List ℕ
+    doubted-positions = positions (doubted-places b)
+
+    abbrev pub found-locator : List E
+    found-locator = error-locator e locator-of doubted-positions (syndrome (symbols b)) (bound C)
+
+    abbrev pub found-slope : ℕ → E
+    found-slope p = slope-at e locator-of doubted-positions (syndrome (symbols b)) (bound C) p
+
+    abbrev pub found-change : ℕ → E
+    found-change p = e .mul (change-at e locator-of doubted-positions (syndrome (symbols b)) (bound C) p) (e .inv (pow e (locator-of p) (C .first)))
+
+    abbrev pub is-root : ℕ → Type 0
+    is-root p = eval e found-locator (e .inv (locator-of p)) ≡ e .𝟘
+
+    module _ (n : List S) where
+      abbrev pub error-positions : List ℕ
+      error-positions = positions (wrong-places (s .discrete) b n)
+
+      -- the change at a position
+      abbrev pub change : ℕ → S
+      change p = coeff s (changes s (symbols b) n) p
+
+      -- decoding finds exactly the differences from n
+      pub record Mended : Type 0 where
+        pub locates : found-locator ≡ locator e locator-of error-positions
+        pub as-many : length found-locator ≡ errors (s .discrete) b n + 1
+        pub root : (p : ℕ) → Mem p error-positions → is-root p
+        pub no-other : (p : ℕ) → p < C .limit → is-root p → Mem p error-positions
+        pub apart : (p : ℕ) → Apart e locator-of p error-positions → ¬ is-root p
+        pub sloped : (p : ℕ) → Mem p (error-positions ++ doubted-positions) → ¬ (found-slope p ≡ e .𝟘)
+        pub value : (p : ℕ) → Mem p (error-positions ++ doubted-positions) → found-change p ≡ up (change p)
+        pub drops : (p : ℕ) → Mem p (error-positions ++ doubted-positions) → (r : Option S) → Drops up (found-change p) r → r ≡ Some (change p)
+
+  -- Within the limit, where a row is near, decoding finds it.
+  abbrev pub Mends : Type 0
+  Mends = (b : Book S) (n : List S) → length b ≤ C .limit → Near s C b n → Mended b n
