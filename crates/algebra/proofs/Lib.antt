@@ -21,6 +21,7 @@ pub mod Linear
 pub mod Locator
 pub mod Massey
 pub mod Members
+pub mod Mended
 pub mod Near
 pub mod Orders
 pub mod Pigeonhole
