@@ -1,24 +1,23 @@
 -- The syndromes of a row are the power sums of its changes at the errors and the doubted places. Assumes nothing.
 use mathlib.Core.Path.{_≡_, refl, sym, ap, ap₂, _∙_}
-use mathlib.Core.List.{List, [], _∷_, _++_, map, reverse, reverse-cons}
+use mathlib.Core.List.{List, [], _∷_, reverse, reverse-cons}
 use mathlib.Core.Bool.{Bool, true, false, not, _&&_}
-use Prim.Native.Nat.{ℕ, zero, suc, _+_, _<_, _≤_}
+use Prim.Native.Nat.{ℕ, suc, _+_, _<_}
 use native.Mathlib.Omega.{arith}
 use native.Mathlib.Nat.{mul-comm}
 use lib.ListN.{length, length-map, length-reverse}
 use Rattle.std.proofs.shelf.Lists.{getD-push, getD-append-left}
 use Rattle.algebra.specs.Field.{FieldOn, Lifts, pow}
-use Rattle.algebra.specs.Poly.{coeff, eval, subP}
-use Rattle.algebra.specs.Series.{All, Distinct, psum}
-use Rattle.algebra.specs.Code.{Code, Lawful, bound, Sound}
-use Rattle.algebra.specs.Rows.{Place, Book, symbols, doubted-places, refuted, wrong, wrong-places, positions, changes, at-root}
-use Rattle.algebra.proofs.Laws.{add-zero, mul-zero, zero-mul, mul-ne-zero, sub-zero}
-use Rattle.algebra.proofs.Solver.{:0, :1, _:+_, _:*_, _:-_, v0, v1, v2, v3, v4, solve}
+use Rattle.algebra.specs.Poly.{coeff, subP}
+use Rattle.algebra.specs.Series.{All, psum}
+use Rattle.algebra.specs.Code.{Code}
+use Rattle.algebra.specs.Rows.{Place, Book, symbols, doubted-places, refuted, wrong, wrong-places, positions}
+use Rattle.algebra.proofs.Laws.{sub-zero}
+use Rattle.algebra.proofs.Solver.{:0, _:+_, _:*_, v0, v1, v2, solve}
 use Rattle.algebra.proofs.Poly.{length-subP}
-use Rattle.algebra.proofs.Lifted.{up-zero, up-ne-zero}
+use Rattle.algebra.proofs.Lifted.{up-zero}
 use Rattle.algebra.proofs.Powers.{pow-add, pow-mul}
-use Rattle.algebra.proofs.Orders.{pow-ne-zero}
-use Rattle.algebra.proofs.Flags.{all-map, positions-below, distinct-more}
+use Rattle.algebra.proofs.Flags.{all-map, positions-below}
 use Rattle.algebra.proofs.Syndromes.{value, value-cons}
 
 module _ {S : Type 0} (s : FieldOn S) where

@@ -1,16 +1,15 @@
 -- Sound rows are far apart, so that at most one is near, also with one more place doubted. Assumes nothing.
-use mathlib.Core.Path.{_≡_, refl, sym, ap, ap₂, subst, _∙_}
+use mathlib.Core.Path.{_≡_, refl, sym, ap, ap₂, _∙_}
 use mathlib.Core.List.{List, [], _∷_, _++_, map}
-use mathlib.Core.Bool.{Bool, true, false}
-use Prim.Native.Nat.{ℕ, zero, suc, _+_, _<_, _≤_}
+use mathlib.Core.Bool.{false}
+use Prim.Native.Nat.{ℕ, _+_, _≤_}
 use native.Mathlib.Omega.{arith}
 use native.Mathlib.Decide.{decLe}
 use lib.ListN.{length, length-append, length-map}
 use Rattle.algebra.specs.Field.{FieldOn, Lifts, pow}
 use Rattle.algebra.specs.Poly.{eval, subP}
-use Rattle.algebra.specs.Series.{All, psum}
 use Rattle.algebra.specs.Code.{Code, Lawful, bound, residue, Sound}
-use Rattle.algebra.specs.Rows.{Place, Book, symbols, doubted-places, doubts, mark, count, positions, refuted, differing, differ, wrong-places, errors, Near, at-root, syndrome, error-positions, doubted-positions, Distance, OneNear, OneMoreDoubt}
+use Rattle.algebra.specs.Rows.{Book, symbols, doubted-places, doubts, mark, count, refuted, differing, differ, wrong-places, errors, at-root, syndrome, error-positions, doubted-positions, Distance, OneNear, OneMoreDoubt}
 use Rattle.algebra.proofs.Laws.{add-neg}
 use Rattle.algebra.proofs.Eval.{eval-subP}
 use Rattle.algebra.proofs.Lifted.{map-subP}

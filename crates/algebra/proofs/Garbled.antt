@@ -1,11 +1,10 @@
 -- A row of a lawful code, with a near one, is garbled as decoding on syndromes has it. Assumes nothing.
-use mathlib.Core.Path.{_≡_, refl, sym, ap, ap₂, _∙_}
+use mathlib.Core.Path.{_≡_, sym, ap, ap₂, _∙_}
 use mathlib.Core.List.{List, [], _∷_, _++_, reverse}
 use mathlib.Core.Bool.{Bool, true, false}
 use mathlib.Core.Logic.{_⊎_, inl, inr}
-use Prim.Native.Nat.{ℕ, zero, suc, _+_, _-_, _*_, _<_, _≤_}
+use Prim.Native.Nat.{ℕ, _+_, _-_, _<_, _≤_}
 use native.Mathlib.Omega.{arith}
-use native.Mathlib.Decide.{decLt}
 use lib.ListN.{length, length-map}
 use Rattle.std.proofs.shelf.Tests.{cases-order}
 use Rattle.algebra.specs.Field.{FieldOn, Lifts, pow}
@@ -13,8 +12,8 @@ use Rattle.algebra.specs.Poly.{coeff, subP}
 use Rattle.algebra.specs.Series.{All, Distinct, psum}
 use Rattle.algebra.specs.Code.{Code, Lawful, bound, Sound}
 use Rattle.algebra.specs.Decode.{Garbled}
-use Rattle.algebra.specs.Rows.{Place, Book, symbols, doubted-places, wrong, wrong-places, positions, Near, syndrome, error-positions, doubted-positions}
-use Rattle.algebra.proofs.Laws.{mul-one, mul-zero, mul-add, mul-neg, add-neg, factor-zero, mul-ne-zero, sub-zero}
+use Rattle.algebra.specs.Rows.{Book, symbols, doubted-places, wrong, wrong-places, positions, Near, syndrome, error-positions, doubted-positions}
+use Rattle.algebra.proofs.Laws.{mul-one, mul-add, mul-neg, add-neg, factor-zero, mul-ne-zero, sub-zero}
 use Rattle.algebra.proofs.Lifted.{up-ne-zero}
 use Rattle.algebra.proofs.Powers.{pow-add}
 use Rattle.algebra.proofs.Orders.{pow-ne-zero}

@@ -13,7 +13,7 @@ use Rattle.algebra.specs.Poly.{subP}
 use Rattle.algebra.specs.Series.{Mem, here, there, Apart}
 use Rattle.algebra.specs.Decode.{Decoded}
 use Rattle.algebra.specs.Code.{Code, Lawful, bound}
-use Rattle.algebra.specs.Rows.{Book, symbols, wrong-places, Near, syndrome, error-positions, doubted-positions, found-change, is-root, change, Mended, Mends}
+use Rattle.algebra.specs.Rows.{Book, symbols, wrong-places, Near, syndrome, error-positions, doubted-positions, found-change, is-root, change, Mends}
 use Rattle.algebra.proofs.Laws.{mul-one}
 use Rattle.algebra.proofs.Orders.{pow-ne-zero}
 use Rattle.algebra.proofs.Members.{all-from, all-at}

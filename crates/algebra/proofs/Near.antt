@@ -5,7 +5,7 @@ use mathlib.Core.Bool.{Bool, true, false, not, _&&_}
 use Prim.Native.Nat.{ℕ, zero, suc, _+_, _≤_}
 use native.Mathlib.Omega.{arith}
 use lib.ListN.{length}
-use Rattle.algebra.specs.Rows.{Place, Book, count, doubted-places, doubts, mark, refuted, other, differing, differ, wrong, wrong-places, errors}
+use Rattle.algebra.specs.Rows.{Book, count, doubted-places, doubts, mark, refuted, differing, differ, wrong, wrong-places, errors}
 
 pub length-mark : {S : Type 0} (p : ℕ) (b : Book S) → length (mark p b) ≡ length b
 length-mark p [] = refl
