@@ -105,7 +105,7 @@ module _ {S E : Type 0} (s : FieldOn S) (e : FieldOn E) (up : S → E) (L : Lift
 
     -- one place more in front
     sum-more : (c : S) (cs : List S) (f g : Bool) (fs gs : List Bool) → Told s c f g → length fs ≡ length cs → length gs ≡ length cs
-        → value s e up L cs x ≡ sum cs fs ⊕ sum cs gs → value s e up L (c ∷ cs) x ≡ sum (c ∷ cs) (f ∷ fs) ⊕ sum (c ∷ cs) (g ∷ gs)
+        → value e up cs x ≡ sum cs fs ⊕ sum cs gs → value e up (c ∷ cs) x ≡ sum (c ∷ cs) (f ∷ fs) ⊕ sum (c ∷ cs) (g ∷ gs)
     sum-more c cs f g fs gs t lf lg ih =
         value-cons s e up L c cs x
         ∙ ap₂ _⊕_ (ih ∙ ap₂ _⊕_ (later fs lf) (later gs lg)) (term c cs j)
@@ -136,7 +136,7 @@ module _ {S E : Type 0} (s : FieldOn S) (e : FieldOn E) (up : S → E) (L : Lift
 
     -- the changes of a book's row are those at its errors and at its doubted places
     pub changes-sum : (b : Book S) (n : List S) → length n ≡ length b
-        → value s e up L (subP s (symbols b) n) x ≡ sum (subP s (symbols b) n) (wrong-places (s .discrete) b n) ⊕ sum (subP s (symbols b) n) (doubted-places b)
+        → value e up (subP s (symbols b) n) x ≡ sum (subP s (symbols b) n) (wrong-places (s .discrete) b n) ⊕ sum (subP s (symbols b) n) (doubted-places b)
     changes-sum [] [] h = sym (e .zero-add 𝟘)
     changes-sum [] (v ∷ n) h = absurd (omega arith)
     changes-sum (a ∷ b) [] h = absurd (omega arith)

@@ -25,6 +25,7 @@ pub mod Mended
 pub mod Near
 pub mod Orders
 pub mod Pigeonhole
+pub mod Places
 pub mod Poly
 pub mod PowerSums
 pub mod Powers

@@ -22,23 +22,23 @@ eval-push F (b ∷ p) a x =
     ap (λ t. F .add b (F .mul x t)) (eval-push F p a x)
     ∙ solve F (a ∷ b ∷ x ∷ eval F p x ∷ pow F x (length p) ∷ []) (v1 :+ v2 :* (v3 :+ v4 :* v0)) (v1 :+ v2 :* v3 :+ v2 :* v4 :* v0) refl
 
+-- a row's polynomial, lifted, at x: the last symbol at position 0
+abbrev pub value : {S E : Type 0} → FieldOn E → (S → E) → List S → E → E
+value e up row x = eval e (map up (reverse row)) x
+
 module _ {S E : Type 0} (s : FieldOn S) (e : FieldOn E) (up : S → E) (L : Lifts s e up) where
   open FieldOn e using (𝟘, 𝟙, add as _⊕_, mul as _⊗_, neg as ⊖_, add-neg)
 
   infixl 60 _⊕_
   infixl 70 _⊗_
   infix 80 ⊖_
-  -- a row's polynomial, lifted, at x: the last symbol at position 0
-  abbrev pub value : List S → E → E
-  value row x = eval e (map up (reverse row)) x
-
-  pub value-cons : (v : S) (row : List S) (x : E) → value (v ∷ row) x ≡ value row x ⊕ pow e x (length row) ⊗ up v
+  pub value-cons : (v : S) (row : List S) (x : E) → value e up (v ∷ row) x ≡ value e up row x ⊕ pow e x (length row) ⊗ up v
   value-cons v row x =
       ap (λ t. eval e t x) (ap (map up) (reverse-cons v row) ∙ map-push up (reverse row) v)
       ∙ eval-push e (map up (reverse row)) (up v) x
-      ∙ ap (λ n. value row x ⊕ pow e x n ⊗ up v) (length-map (reverse row) up ∙ length-reverse row)
+      ∙ ap (λ n. value e up row x ⊕ pow e x n ⊗ up v) (length-map (reverse row) up ∙ length-reverse row)
 
-  pub value-subP : (v w : List S) (x : E) → length v ≡ length w → value (subP s v w) x ≡ value v x ⊕ ⊖ value w x
+  pub value-subP : (v w : List S) (x : E) → length v ≡ length w → value e up (subP s v w) x ≡ value e up v x ⊕ ⊖ value e up w x
   value-subP [] [] x h = sym (add-neg 𝟘)
   value-subP [] (b ∷ w) x h = absurd (omega arith)
   value-subP (a ∷ v) [] x h = absurd (omega arith)
@@ -47,12 +47,12 @@ module _ {S E : Type 0} (s : FieldOn S) (e : FieldOn E) (up : S → E) (L : Lift
       let as-long : length v ≡ length w = omega arith in
       value-cons (s .add a (s .neg b)) (subP s v w) x
       ∙ ap₂ _⊕_ (value-subP v w x as-long) (ap₂ (λ k t. pow e x k ⊗ t) (length-subP s v w (omega arith)) (up-sub s e up L a b))
-      ∙ solve e (value v x ∷ value w x ∷ m ∷ up a ∷ up b ∷ []) (v0 :- v1 :+ v2 :* (v3 :- v4)) (v0 :+ v2 :* v3 :- (v1 :+ v2 :* v4)) refl
-      ∙ ap₂ (λ t u. t ⊕ ⊖ u) (sym (value-cons a v x)) (ap (λ k. value w x ⊕ pow e x k ⊗ up b) as-long ∙ sym (value-cons b w x))
+      ∙ solve e (value e up v x ∷ value e up w x ∷ m ∷ up a ∷ up b ∷ []) (v0 :- v1 :+ v2 :* (v3 :- v4)) (v0 :+ v2 :* v3 :- (v1 :+ v2 :* v4)) refl
+      ∙ ap₂ (λ t u. t ⊕ ⊖ u) (sym (value-cons a v x)) (ap (λ k. value e up w x ⊕ pow e x k ⊗ up b) as-long ∙ sym (value-cons b w x))
 
   module _ (C : Code S E) (lawful : Lawful s e up C) where
-    -- at a root, a residue has the value of its row with a leading 1
-    residue-value : (row : List S) (j : ℕ) → C .first ≤ j → j ≤ C .last → at-root s e up C (residue s C row) j ≡ value (s .𝟙 ∷ row) (pow e (C .root) j)
+    -- at a root, a residue has the value e up of its row with a leading 1
+    residue-value : (row : List S) (j : ℕ) → C .first ≤ j → j ≤ C .last → at-root s e up C (residue s C row) j ≡ value e up (s .𝟙 ∷ row) (pow e (C .root) j)
     residue-value row j low high =
         let b = pow e (C .root) j in
         let monic : map up (generator s C) ≡ map up (C .lower) ++ (𝟙 ∷ []) = map-push up (C .lower) (s .𝟙) ∙ ap (λ t. map up (C .lower) ++ (t ∷ [])) (up-one s e up L) in
@@ -67,6 +67,6 @@ module _ {S E : Type 0} (s : FieldOn S) (e : FieldOn E) (up : S → E) (L : Lift
         ∙ eval-subP e (map up (residue s C row)) (map up (C .target)) b
         ∙ ap₂ (λ t u. t ⊕ ⊖ u)
             (residue-value row j low high ∙ value-cons (s .𝟙) row b)
-            (ap (λ t. at-root s e up C t j) (sym sound) ∙ residue-value n j low high ∙ value-cons (s .𝟙) n b ∙ ap (λ k. value n b ⊕ pow e b k ⊗ up (s .𝟙)) (sym same))
-        ∙ solve e (value row b ∷ value n b ∷ pow e b (length row) ⊗ up (s .𝟙) ∷ []) (v0 :+ v2 :- (v1 :+ v2)) (v0 :- v1) refl
+            (ap (λ t. at-root s e up C t j) (sym sound) ∙ residue-value n j low high ∙ value-cons (s .𝟙) n b ∙ ap (λ k. value e up n b ⊕ pow e b k ⊗ up (s .𝟙)) (sym same))
+        ∙ solve e (value e up row b ∷ value e up n b ∷ pow e b (length row) ⊗ up (s .𝟙) ∷ []) (v0 :+ v2 :- (v1 :+ v2)) (v0 :- v1) refl
         ∙ sym (value-subP row n b same)
