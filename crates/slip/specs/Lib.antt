@@ -1,0 +1,4 @@
+pub mod Book
+pub mod CodeFaults
+pub mod SlipFaults
+pub mod View
