@@ -6,6 +6,7 @@ ghost use Prim.Native.Nat.{ℕ, _<_, _≤_};
 pub mod appending;
 pub mod calls;
 pub mod readers;
+pub mod sealing;
 
 /// A row in the making: up to 89 symbols, each below 32, and for each place whether its symbol is doubted.
 #[derive(Drop)]

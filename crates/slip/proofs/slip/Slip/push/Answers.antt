@@ -1,4 +1,4 @@
-use mathlib.Core.Path.{_∙_}
+use mathlib.Core.Path.{refl, _∙_}
 use native.Mathlib.Omega.{arith}
 use lib.ListN.{length-set}
 use Rattle.slip.proofs.Places.{places-push, set-below}
@@ -15,4 +15,7 @@ ghost-self c =
 pub returns : need.returns
 returns c =
     let s = c .args .self .now in
-    places-push (s .symbols) (s .doubted) (s .len) (s .«all_symbols») (s .«all_marks») (s .room) (c .args .symbol) (c .args .doubted) (c .pre .1)
+    record {
+      book = places-push (s .symbols) (s .doubted) (s .len) (s .«all_symbols») (s .«all_marks») (s .room) (c .args .symbol) (c .args .doubted) (c .pre .1);
+      more = refl;
+    }
