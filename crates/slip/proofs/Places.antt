@@ -2,13 +2,14 @@
 use Prim.Native.Nat.{ℕ, zero, suc, _+_, _<_, _≤_}
 use mathlib.Core.Bool.{Bool, true, false}
 use mathlib.Core.List.{List, [], _∷_, _++_}
-use mathlib.Core.Path.{_≡_, refl, ap, _∙_}
+use mathlib.Core.Path.{_≡_, refl, sym, ap, _∙_}
 use native.Mathlib.Omega.{arith}
 use lib.ListN.{length, take, set, getD, replicate}
 use Rattle.std.proofs.shelf.Lists.{take-more-set, length-take-le}
 use Rattle.std.specs.declared.option.Option.the-variants.{Some, None}
 use Rattle.slip.specs.Book.{Book, mark, row, marks, symbolAt, doubtedAt}
-use Rattle.slip.specs.View.{at, places}
+use Rattle.slip.specs.View.{at, places, view}
+use Rattle.slip.specs.declared.slip.Slip.{Slip}
 
 length-places : (vs : List ℕ) (ds : List Bool) → length vs ≡ length ds → length (places vs ds) ≡ length vs
 length-places [] ds e = refl
@@ -65,14 +66,16 @@ doubtedAt-past [] i h = refl
 doubtedAt-past (p ∷ b) zero h = absurd (omega arith)
 doubtedAt-past (p ∷ b) (suc i) h = doubtedAt-past b i (omega arith)
 
-module _ (vs : List ℕ) (ds : List Bool) (n : ℕ) (all-symbols : length vs ≡ 89) (all-marks : length ds ≡ 89) (room : n ≤ 89) where
-  pub length-held : length (take n (places vs ds)) ≡ n
-  length-held = let l = length-places vs ds (omega arith) in length-take-le n (places vs ds) (omega arith)
+pub length-view : (s : Slip) → length (view s) ≡ s .len
+length-view s =
+    let full = length-places (s .symbols) (s .doubted) (s .«all_symbols» ∙ sym (s .«all_marks»)) in
+    length-take-le (s .len) (places (s .symbols) (s .doubted)) (omega (arith, s .«all_symbols», s .room))
 
-  pub places-push : (v : ℕ) (d : Bool) → n < 89 → take (n + 1) (places (set vs n v) (set ds n d)) ≡ take n (places vs ds) ++ at v d ∷ []
-  places-push v d h =
-      let l = length-places vs ds (omega arith) in
-      ap (take (n + 1)) (places-set vs ds n v d) ∙ take-more-set (places vs ds) n (at v d) (omega arith)
+pub places-push : (vs : List ℕ) (ds : List Bool) (n v : ℕ) (d : Bool) → length vs ≡ length ds → n < length vs
+    → take (n + 1) (places (set vs n v) (set ds n d)) ≡ take n (places vs ds) ++ at v d ∷ []
+places-push vs ds n v d e h =
+    let l = length-places vs ds e in
+    ap (take (n + 1)) (places-set vs ds n v d) ∙ take-more-set (places vs ds) n (at v d) (omega arith)
 
 -- symbols stay below 32 where one below 32 is written
 pub set-below : (vs : List ℕ) (i v : ℕ) → v < 32 → ((k : ℕ) → getD vs k 0 < 32) → (k : ℕ) → getD (set vs i v) k 0 < 32

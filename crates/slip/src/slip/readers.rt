@@ -53,12 +53,11 @@ impl Slip {
     }
 }
 
-// How many marks are set.
-fn count(marks: &[bool]) -> usize
-    ensures { λ r. ⌜ r ≡ trues (now (marks .entry)) ⌝ }
+fn count(flags: &[bool]) -> usize
+    ensures { λ r. ⌜ r ≡ trues (now (flags .entry)) ⌝ }
 {
     let mut n = 0;
-    for mark in marks {
+    for mark in flags {
         if *mark {
             n += 1;
         }

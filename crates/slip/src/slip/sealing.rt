@@ -56,15 +56,15 @@ impl Slip {
     }
 }
 
-// The engine after a row of numbers.
-fn engine_of<C: Checksum>(row: &[u8]) -> Engine<C>
-    requires { ⌜ ((k : ℕ) → getD (now row) k 0 < 32) ⌝ }
-    ensures { λ r. ⌜ held (C·Checksum .code) (r .entries) ≡ residue (SymbolField·Field .field) (C·Checksum .code) (elements (SymbolField·Field .numbers) (now (row .entry))) ⌝ }
+// The engine after a row, given by the numbers of its symbols.
+fn engine_of<C: Checksum>(symbols: &[u8]) -> Engine<C>
+    requires { ⌜ ((k : ℕ) → getD (now symbols) k 0 < 32) ⌝ }
+    ensures { λ r. ⌜ held (C·Checksum .code) (r .entries) ≡ residue (SymbolField·Field .field) (C·Checksum .code) (elements (SymbolField·Field .numbers) (now (symbols .entry))) ⌝ }
 {
     C::laws();
     C::SymbolField::small();
     let mut engine = Engine::<C>::new();
-    for symbol in row {
+    for symbol in symbols {
         engine.input_fe(element(*symbol));
     }
     engine

@@ -16,6 +16,6 @@ pub returns : need.returns
 returns c =
     let s = c .args .self .now in
     record {
-      book = places-push (s .symbols) (s .doubted) (s .len) (s .«all_symbols») (s .«all_marks») (s .room) (c .args .symbol) (c .args .doubted) (c .pre .1);
+      book = places-push (s .symbols) (s .doubted) (s .len) (c .args .symbol) (c .args .doubted) (omega arith) (omega arith);
       more = refl;
     }

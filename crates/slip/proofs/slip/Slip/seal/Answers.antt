@@ -6,7 +6,7 @@ use Rattle.algebra.specs.Code.{checks, Sound}
 use Rattle.slip.specs.Book.{Book, answer, after, row}
 use Rattle.slip.specs.Sealing.{elements}
 use Rattle.slip.specs.View.{view}
-use Rattle.slip.proofs.Places.{length-held}
+use Rattle.slip.proofs.Places.{length-view}
 use Rattle.slip.proofs.Sealing.{seal-long, seal-held, sealed-book-sound}
 use Rattle.slip.proofs.slip.Slip.seal.Needs as need
 
@@ -15,9 +15,8 @@ returns-then-self-checksum-length g c =
     let N = g .SymbolField·Field .numbers in
     let F = g .SymbolField·Field .field in
     let code = g .C·Checksum .code in
-    let s = c .args .self .now in
-    let b = view s in
-    let l = length-held (s .symbols) (s .doubted) (s .len) (s .«all_symbols») (s .«all_marks») (s .room) in
+    let b = view (c .args .self .now) in
+    let l = length-view (c .args .self .now) in
     let is-k = c .checksum-length .ensures in
     let is-limit = c .code-length .ensures in
     let some : 0 < length b = omega arith in
@@ -34,9 +33,8 @@ returns g c =
     let N = g .SymbolField·Field .numbers in
     let F = g .SymbolField·Field .field in
     let code = g .C·Checksum .code in
-    let s = c .args .self .now in
-    let b = view s in
-    let l = length-held (s .symbols) (s .doubted) (s .len) (s .«all_symbols») (s .«all_marks») (s .room) in
+    let b = view (c .args .self .now) in
+    let l = length-view (c .args .self .now) in
     let is-k = c .checksum-length .ensures in
     let is-limit = c .code-length .ensures in
     let some : 0 < length b = omega arith in

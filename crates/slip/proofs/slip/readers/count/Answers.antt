@@ -11,7 +11,7 @@ use Rattle.slip.proofs.slip.readers.count.Needs.{then-mark, else-mark}
 
 pub loop-mark-again : need.loop-mark-again
 loop-mark-again c =
-    let ms = c .args .marks .now in
+    let ms = c .args .flags .now in
     let i = c .loop-mark .mark-index in
     let m : trues (drop i ms) ≡ cond (getD ms i false) 1 0 + trues (drop (i + 1) ms) = at-drop-more trues ms i false (c .loop-mark-test .taken) in
     elim (c .if-mark .came) [
@@ -24,5 +24,5 @@ loop-mark-again c =
 
 pub returns : need.returns
 returns c =
-    let none : trues (drop (c .loop-mark .mark-index) (c .args .marks .now)) ≡ 0 = at-drop-all trues (c .args .marks .now) (c .loop-mark .mark-index) (c .loop-mark-test .left) in
+    let none : trues (drop (c .loop-mark .mark-index) (c .args .flags .now)) ≡ 0 = at-drop-all trues (c .args .flags .now) (c .loop-mark .mark-index) (c .loop-mark-test .left) in
     omega arith

@@ -5,4 +5,4 @@ use Rattle.slip.specs.Book.{trues}
 use Rattle.slip.proofs.slip.readers.count.Given as given
 
 abbrev pub Inv-loop-mark : given.InvT-loop-mark
-Inv-loop-mark l = (l .n + trues (drop (l .mark-index) (l .marks)) ≡ trues (l .marks)) × (l .n ≤ l .mark-index)
+Inv-loop-mark l = (l .n + trues (drop (l .mark-index) (l .flags)) ≡ trues (l .flags)) × (l .n ≤ l .mark-index)

@@ -14,7 +14,7 @@ loop-symbol-again g c =
     let F = g .SymbolField·Field .field in
     let N = g .SymbolField·Field .numbers in
     let code = g .C·Checksum .code in
-    let row = c .args .row .now in
+    let row = c .args .symbols .now in
     let i = c .loop-symbol .symbol-index in
     let before = held code (c .loop-symbol .engine .entries) in
     let rest = elements N (drop (i + 1) row) in
@@ -29,5 +29,5 @@ returns g c =
     let N = g .SymbolField·Field .numbers in
     let code = g .C·Checksum .code in
     let after = held code (c .loop-symbol .engine .entries) in
-    sym (at-drop-all (λ (xs : List ℕ). residue-from F (code .lower) after (elements N xs)) (c .args .row .now) (c .loop-symbol .symbol-index) (c .loop-symbol-test .left))
+    sym (at-drop-all (λ (xs : List ℕ). residue-from F (code .lower) after (elements N xs)) (c .args .symbols .now) (c .loop-symbol .symbol-index) (c .loop-symbol-test .left))
     ∙ c .loop-symbol .inv

@@ -10,4 +10,4 @@ Inv-loop-symbol g l =
     let F = g .SymbolField·Field .field in
     let N = g .SymbolField·Field .numbers in
     let code = g .C·Checksum .code in
-    residue-from F (code .lower) (held code (l .engine .entries)) (elements N (drop (l .symbol-index) (l .row))) ≡ residue F code (elements N (l .row))
+    residue-from F (code .lower) (held code (l .engine .entries)) (elements N (drop (l .symbol-index) (l .symbols))) ≡ residue F code (elements N (l .symbols))
