@@ -57,6 +57,7 @@ impl Slip {
     }
 }
 
+// How many flags are set.
 fn count(flags: &[bool]) -> usize
     ensures { λ r. ⌜ r ≡ trues (now (flags .entry)) ⌝ }
 {
