@@ -1,0 +1,28 @@
+-- Coefficient lists, lowest power first, and what the functions on them answer. Assumes nothing.
+--   degree F p       the highest power whose coefficient is not ZERO; 0 for a list of ZEROs
+--   leading F p      the coefficient of that power
+--   derivative F p   as many entries as the degree; entry i is (i + 1) times coefficient i + 1
+use mathlib.Core.List.{List}
+use Prim.Native.Nat.{ℕ, zero, suc}
+use lib.ListN.{length}
+use Rattle.algebra.specs.Field.{FieldOn, multiple}
+use Rattle.algebra.specs.Poly.{tab, coeff}
+
+module _ {A : Type 0} (F : FieldOn A) where
+  -- the highest power up to n whose coefficient is not ZERO, else 0
+  abbrev pub highest : List A → ℕ → ℕ
+  highest p zero = 0
+  highest p (suc n) = elim (F .discrete (coeff F p (suc n)) (F .𝟘)) [ yes _ ↦ highest p n | no _ ↦ suc n ]
+
+  abbrev pub degree : List A → ℕ
+  degree p = highest p (length p)
+
+  abbrev pub leading : List A → A
+  leading p = coeff F p (degree p)
+
+  abbrev pub derivative : List A → List A
+  derivative p = tab (degree p) (λ i. multiple F (coeff F p (suc i)) (suc i))
+
+  -- entry by entry; what lies past an end is ZERO
+  abbrev pub pointwise : List A → List A → List A
+  pointwise p q = tab (length p) (λ i. F .mul (coeff F p i) (coeff F q i))
