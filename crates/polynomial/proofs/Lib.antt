@@ -4,3 +4,6 @@ pub mod Degrees
 pub mod Values
 pub mod Doubling
 pub mod Places
+pub mod Terms
+pub mod Products
+pub mod Searches

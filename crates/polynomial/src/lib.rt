@@ -2,3 +2,4 @@
 pub mod fault;
 pub mod fieldvec;
 pub mod polynomial;
+pub mod roots;
