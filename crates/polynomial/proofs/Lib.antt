@@ -1,0 +1,13 @@
+pub mod Equality
+pub mod Filled
+pub mod Degrees
+pub mod Values
+pub mod Doubling
+pub mod Places
+pub mod Terms
+pub mod Products
+pub mod Searches
+pub mod Grown
+pub mod Inverses
+pub mod Steps
+pub mod Judged
