@@ -11,6 +11,7 @@ use Rattle.gf32.specs.Gf32.{gf32, gf32-numbers}
 use Rattle.gf32.specs.declared.gf32.Fe32.{Fe32}
 use Rattle.gf32_ext.specs.Gf1024.{gf1024, fe1024}
 use Rattle.gf32_ext.specs.declared.fe1024.Fe1024.{Fe1024}
+use Rattle.polynomial.specs.Lists.{product}
 
 abbrev element : ℕ → Fe32
 element = gf32-numbers .element
@@ -29,6 +30,10 @@ coefficients x = numbers (x .c0 ∷ x .c1 ∷ [])
 abbrev connection : List ℕ → List ℕ
 connection terms = numbers (register gf32 (coeff gf32 (map element terms)) (length terms) .conn)
 
+-- 1 + x
+abbrev one-one : List Fe32
+one-one = map element (1 ∷ 1 ∷ [])
+
 abbrev pub computed : List (List ℕ)
 computed =
     -- a product in GF(32)
@@ -41,7 +46,10 @@ computed =
     -- the connection lists of two sequences
     ∷ connection (27 ∷ 0 ∷ 0 ∷ 0 ∷ [])
     ∷ connection (0 ∷ 0 ∷ 5 ∷ [])
+    -- 1 + x times itself, uncut and cut at 2
+    ∷ numbers (product gf32 one-one one-one 4)
+    ∷ numbers (product gf32 one-one one-one 2)
     ∷ []
 
 abbrev pub expected : List (List ℕ)
-expected = (2 ∷ []) ∷ (10 ∷ 17 ∷ 15 ∷ 18 ∷ []) ∷ (12 ∷ 24 ∷ []) ∷ (1 ∷ 1 ∷ []) ∷ (1 ∷ 0 ∷ []) ∷ (1 ∷ 0 ∷ 0 ∷ 5 ∷ []) ∷ []
+expected = (2 ∷ []) ∷ (10 ∷ 17 ∷ 15 ∷ 18 ∷ []) ∷ (12 ∷ 24 ∷ []) ∷ (1 ∷ 1 ∷ []) ∷ (1 ∷ 0 ∷ []) ∷ (1 ∷ 0 ∷ 0 ∷ 5 ∷ []) ∷ (1 ∷ 0 ∷ 1 ∷ 0 ∷ []) ∷ (1 ∷ 0 ∷ []) ∷ []

@@ -6,9 +6,8 @@ use lib.ListN.{length}
 use Rattle.std.proofs.shelf.Lists.{length-map}
 use Rattle.algebra.specs.Field.{FieldOn}
 use Rattle.algebra.specs.Poly.{tab, coeff, addP, subP}
-use Rattle.algebra.proofs.Poly.{coeff-addP, coeff-subP}
+use Rattle.algebra.proofs.Poly.{length-addP-max, coeff-addP, coeff-subP}
 use Rattle.algebra.proofs.Tab.{tab-same, tab-coeff}
-use Rattle.algebra.proofs.Updates.{length-addP-max}
 
 module _ {A : Type 0} (F : FieldOn A) where
   -- a list from its coefficients

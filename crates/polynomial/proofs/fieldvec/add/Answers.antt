@@ -3,7 +3,7 @@ use Prim.Native.Nat.{suc, _+_, _<_, min, max}
 use native.Mathlib.Omega.{arith}
 use lib.ListN.{length}
 use Rattle.algebra.specs.Poly.{coeff, addP}
-use Rattle.algebra.proofs.Updates.{length-addP-max}
+use Rattle.algebra.proofs.Poly.{length-addP-max}
 use Rattle.polynomial.proofs.Places.{tab-addP}
 use Rattle.polynomial.proofs.Filled.{filled-more, filled-all, refuses, refuses-list, accepts, accepts-list}
 use Rattle.polynomial.proofs.fieldvec.add.Needs as need
