@@ -1,7 +1,7 @@
 -- Sums, multiples and products of coefficient lists, and their coefficients. Assumes nothing.
 use mathlib.Core.Path.{_≡_, refl, sym, ap, ap₂, _∙_}
 use mathlib.Core.List.{List, [], _∷_, map}
-use Prim.Native.Nat.{ℕ, zero, suc, _≤_}
+use Prim.Native.Nat.{ℕ, zero, suc, _≤_, max}
 use native.Mathlib.Omega.{arith}
 use lib.ListN.{length, replicate, length-map}
 use Rattle.algebra.specs.Field.{FieldOn}
@@ -20,6 +20,11 @@ module _ {A : Type 0} (F : FieldOn A) where
   length-addP [] (b ∷ q) h = absurd (omega arith)
   length-addP (a ∷ p) [] h = refl
   length-addP (a ∷ p) (b ∷ q) h = ap suc (length-addP p q (omega arith))
+
+  pub length-addP-max : (p q : List A) → length (addP F p q) ≡ max (length p) (length q)
+  length-addP-max [] q = omega arith
+  length-addP-max (a ∷ p) [] = omega arith
+  length-addP-max (a ∷ p) (b ∷ q) = ap suc (length-addP-max p q) ∙ omega arith
 
   pub length-scaleP : (c : A) (p : List A) → length (scaleP F c p) ≡ length p
   length-scaleP c [] = refl

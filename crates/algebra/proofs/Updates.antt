@@ -11,7 +11,7 @@ use Rattle.algebra.specs.Poly.{coeff, addP, scaleP}
 use Rattle.algebra.specs.Series.{times, shiftP}
 use Rattle.algebra.specs.Register.{change}
 use Rattle.algebra.proofs.Laws.{ring}
-use Rattle.algebra.proofs.Poly.{length-scaleP, addP-nil}
+use Rattle.algebra.proofs.Poly.{length-addP-max, length-scaleP, addP-nil}
 use Rattle.algebra.proofs.Series.{times-addP, times-scaleP, times-shiftP}
 
 module _ {A : Type 0} (F : FieldOn A) where
@@ -20,18 +20,13 @@ module _ {A : Type 0} (F : FieldOn A) where
   infixl 60 _⊕_
   infixl 70 _⊗_
   infix 80 ⊖_
-  pub length-addP-max : (p q : List A) → length (addP F p q) ≡ max (length p) (length q)
-  length-addP-max [] q = omega arith
-  length-addP-max (a ∷ p) [] = omega arith
-  length-addP-max (a ∷ p) (b ∷ q) = ap suc (length-addP-max p q) ∙ omega arith
-
   length-shiftP : (k : ℕ) (p : List A) → length (shiftP F k p) ≡ k + length p
   length-shiftP zero p = omega arith
   length-shiftP (suc k) p = ap suc (length-shiftP k p) ∙ omega arith
 
   pub length-change : (c : List A) (k : A) (x : ℕ) (o : List A) → length (change F c k x o) ≡ max (length c) (length o + x)
   length-change c k x o =
-      length-addP-max c (scaleP F (⊖ k) (shiftP F x o))
+      length-addP-max F c (scaleP F (⊖ k) (shiftP F x o))
       ∙ ap (max (length c)) (length-scaleP F (⊖ k) (shiftP F x o) ∙ length-shiftP x o ∙ omega arith)
 
   -- term n of the changed list's product

@@ -21,7 +21,7 @@ fe n h = record { value = n; ok = h }
 pub fe-path : (x y : Fe32) → x .value ≡ y .value → x ≡ y
 fe-path x y e = λ i. record { value = e i; ok = isProp→PathP (λ j. e j < 32) (λ j. le-prop) (x .ok) (y .ok) i }
 
-pub fe-discrete : (x y : Fe32) → Dec (x ≡ y)
+unfoldable pub fe-discrete : (x y : Fe32) → Dec (x ≡ y)
 fe-discrete x y = elim (ℕ-discrete (x .value) (y .value)) [ yes e ↦ yes (fe-path x y e) | no e ↦ no (λ p. e (ap (λ z. z .value) p)) ]
 
 -- each element but ZERO has its 30th power as its inverse
