@@ -1,13 +1,13 @@
 -- Lists that a loop fills from the front, and what a call that fills one answers. Assumes nothing.
 use mathlib.Core.Path.{_≡_, refl, sym, ap, ap₂, _∙_}
-use mathlib.Core.List.{List, [], _∷_, _++_, append-assoc}
+use mathlib.Core.List.{List, [], _∷_, _++_, append-assoc, append-nil}
 use Prim.Native.Nat.{ℕ, zero, suc, _+_, _-_, _<_, _≤_}
 use native.Mathlib.Omega.{arith}
 use native.Mathlib.Numerals.{add-one}
 use mathlib.Core.Bool.{cond}
 use lib.Dec.{eqb, ltb}
-use lib.ListN.{length, drop, getD, set}
-use Rattle.std.proofs.shelf.Lists.{getD-append-right, getD-drop, length-set, set-at, drop-more}
+use lib.ListN.{length, drop, getD, set, replicate}
+use Rattle.std.proofs.shelf.Lists.{getD-append-right, getD-drop, length-set, set-at, drop-more, drop-all}
 use Rattle.std.proofs.shelf.Tests.{ne-eqb, lt-ltb, le-ltb, cond-true, cond-false}
 use Rattle.std.proofs.shelf.Results.{err-from-errBy}
 use Rattle.std.specs.Results.{ErrBy}
@@ -48,12 +48,12 @@ module _ {A : Type 0} (f : ℕ → A) (e : List A) where
         same = length-set w j x ∙ filled .same
       }
 
-    -- the entry to be written next is as it was
-    pub filled-read : (d : A) → getD w j d ≡ getD e j d
-    filled-read d =
-        let z : j + (j - j) ≡ j = omega arith in
-        ap (λ u. getD u j d) (filled .is) ∙ getD-append-right (tab j f) (drop j e) j j d (length-tab j f) (omega arith)
-        ∙ getD-drop j e (j - j) d ∙ ap (λ i. getD e i d) z
+    -- the entries yet to be written are as they were
+    pub filled-read : (l : ℕ) (d : A) → j ≤ l → getD w l d ≡ getD e l d
+    filled-read l d h =
+        let z : j + (l - j) ≡ l = omega arith in
+        ap (λ u. getD u l d) (filled .is) ∙ getD-append-right (tab j f) (drop j e) j l d (length-tab j f) h
+        ∙ getD-drop j e (l - j) d ∙ ap (λ i. getD e i d) z
 
 -- a call that writes the list `new` at the front of `old`, its lengths as the code has them
 module _ {A : Type 0} (given : ℕ) (new old : List A) (r : Result ℕ ListFault) (m n : ℕ) (is : r ≡ admitted m n (length old)) (given-is : m ≡ given) (size : n ≡ length new) where
@@ -77,6 +77,16 @@ module _ {A : Type 0} (given : ℕ) (new old : List A) (r : Result ℕ ListFault
 -- a list that is filled is the list that its terms are
 pub filled-all : {A : Type 0} (f : ℕ → A) (j n : ℕ) (new old w : List A) → j ≡ n → tab n f ≡ new → Filled f j old w → w ≡ new ++ drop n old
 filled-all f j n new old w e same filled = filled .is ∙ ap (λ k. tab k f ++ drop k old) e ∙ ap (λ t. t ++ drop n old) same
+
+-- a list filled to its end with one entry
+pub filled-same : {A : Type 0} (x : A) (j : ℕ) (old w : List A) → j ≡ length old → Filled (λ _. x) j old w → w ≡ replicate (length old) x
+filled-same {A = A} x j old w e filled =
+    filled-all (λ _. x) j (length old) (replicate (length old) x) old w e (go (length old)) filled
+    ∙ ap (λ t. replicate (length old) x ++ t) (drop-all (length old) old (omega arith)) ∙ append-nil (replicate (length old) x)
+  where
+    go : (n : ℕ) → tab n (λ _. x) ≡ replicate n x
+    go zero = refl
+    go (suc n) = ap (λ t. x ∷ t) (go n)
 
 pub asked-some : {X : Type 0} (given : ℕ) (x : X) → 0 < given → Ok x ≡ asked given x
 asked-some given x h = sym (cond-false (eqb given 0) (Err Empty) (Ok x) (ne-eqb given 0 (λ e. omega arith)))

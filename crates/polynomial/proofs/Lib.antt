@@ -7,3 +7,7 @@ pub mod Places
 pub mod Terms
 pub mod Products
 pub mod Searches
+pub mod Grown
+pub mod Inverses
+pub mod Steps
+pub mod Judged

@@ -1,3 +1,4 @@
 pub mod Faults
 pub mod Lists
 pub mod Roots
+pub mod Registers

@@ -1,8 +1,8 @@
 // Lists entry by entry: sums, products, powers, and lists lifted into the field above.
-ghost use mathlib.Core.List.{map};
+ghost use mathlib.Core.List.{_++_, map};
 ghost use mathlib.Core.Path.{_≡_};
-ghost use Prim.Native.Nat.{_+_, min};
-ghost use lib.ListN.{length};
+ghost use Prim.Native.Nat.{_+_, _≤_, min};
+ghost use lib.ListN.{length, drop, replicate};
 ghost use Rattle.algebra.specs.Field.{pow};
 ghost use Rattle.algebra.specs.Poly.{tab, coeff, addP, subP};
 ghost use Rattle.polynomial.specs.Faults.{count, written};
@@ -82,4 +82,23 @@ pub fn lift<E: ExtensionField>(list: &[E::BaseField], out: &mut [E]) -> Result<u
         out[i] = E::lift(list[i]);
     }
     Ok(n)
+}
+
+/// Every entry becomes ZERO.
+pub fn clear<F: Field>(list: &mut [F])
+    ensures { λ _. ⌜ now (list .exit) ≡ replicate (length (now (list .entry))) (field .𝟘) ⌝ }
+{
+    for i in 0..list.len() {
+        list[i] = F::zero();
+    }
+}
+
+// The front of a list becomes another.
+pub(crate) fn put_front<F: Field>(to: &mut [F], from: &[F])
+    requires { ⌜ length (now from) ≤ length (now to) ⌝ }
+    ensures { λ _. ⌜ now (to .exit) ≡ now (from .entry) ++ drop (length (now (from .entry))) (now (to .entry)) ⌝ }
+{
+    for i in 0..from.len() {
+        to[i] = from[i];
+    }
 }

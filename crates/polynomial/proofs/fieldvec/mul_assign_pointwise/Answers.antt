@@ -31,7 +31,7 @@ loop-i-again g c =
     let holds = c .in-Continue-n .ensures tt .holds in
     let y = c .index-list-i .result in
     let inside : i < length p = omega arith in
-    let read : y ≡ coeff F p i = c .index-list-i .is ∙ filled-read (λ i. F .mul (coeff F p i) (coeff F q i)) p i (c .loop-i .list) (c .loop-i .inv) y ∙ getD-default p i y (F .𝟘) inside in
+    let read : y ≡ coeff F p i = c .index-list-i .is ∙ filled-read (λ i. F .mul (coeff F p i) (coeff F q i)) p i (c .loop-i .list) (c .loop-i .inv) i y (omega arith) ∙ getD-default p i y (F .𝟘) inside in
     filled-more (λ i. F .mul (coeff F p i) (coeff F q i)) (c .args .list .now) i (c .loop-i .list) (c .loop-i .inv) (c .mul .result) (omega arith)
     (c .mul .ensures ∙ ap₂ (F .mul) read (c .entry .ensures))
 
