@@ -24,7 +24,11 @@ fn derivative<F: Field>(heap: Global, list: &[F]) -> Result<String, AnyError> {
 // The entries of both together are the most that a product has, so that max cuts nothing off.
 fn product<F: Field>(heap: Global, cut: &str, a: &[F], b: &[F]) -> Result<String, AnyError> {
     let room = a.len().saturating_add(b.len());
-    let d = if cut == "max" { room } else { cut.parse::<usize>()? };
+    let d = if cut == "max" {
+        room
+    } else {
+        cut.parse::<usize>()?
+    };
     let mut lent = vec![in heap; F::zero(); room]?;
     let outcome = mul_mod_x_d(a, b, d, lent.as_mut_slice());
     write_front(heap, outcome, lent.as_slice())
@@ -59,11 +63,7 @@ fn roots<F: Field>(heap: Global, list: &[F], base: F) -> Result<String, AnyError
     Ok(text)
 }
 
-fn answer_of_one<F: Field>(
-    heap: Global,
-    operation: &str,
-    list: &[F],
-) -> Result<String, AnyError> {
+fn answer_of_one<F: Field>(heap: Global, operation: &str, list: &[F]) -> Result<String, AnyError> {
     match operation {
         "degree" => write_number(heap, degree(list)),
         "deriv" => derivative(heap, list),
