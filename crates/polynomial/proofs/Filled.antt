@@ -39,14 +39,14 @@ module _ {A : Type 0} (f : ℕ → A) (e : List A) where
   module _ (j : ℕ) (w : List A) (filled : Filled f j e w) where
     pub filled-more : (x : A) → j < length e → x ≡ f j → Filled f (j + 1) e (set w j x)
     filled-more x h v = record {
-        is =
+      is =
           ap (λ u. set u j x) (filled .is ∙ ap (λ t. tab j f ++ t) (drop-more e j x h))
           ∙ set-at (tab j f) (getD e j x) (drop (j + 1) e) x j (length-tab j f)
           ∙ ap (λ y. tab j f ++ (y ∷ drop (j + 1) e)) v
           ∙ sym (append-assoc (tab j f) (f j ∷ []) (drop (j + 1) e))
           ∙ ap (λ t. t ++ drop (j + 1) e) (sym (tab-more j f));
-        same = length-set w j x ∙ filled .same
-      }
+      same = length-set w j x ∙ filled .same;
+    }
 
     -- the entries yet to be written are as they were
     pub filled-read : (l : ℕ) (d : A) → j ≤ l → getD w l d ≡ getD e l d

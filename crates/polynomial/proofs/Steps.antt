@@ -134,7 +134,7 @@ module _ {A : Type 0} (F : FieldOn A) where
                 conn-is = out ∙ ap₂ _++_ changed-is back-is;
                 old-is = h .old-is;
                 inverse-is = h .inverse-is;
-                x-is = ap (λ k. k + 1) (h .x-is)
+                x-is = ap (λ k. k + 1) (h .x-is);
               })
 
           pub grows : (conn′ w′ : List A) (r′ : A) → r′ ≡ F .inv r → ¬ (ol + x ≤ len) → conn′ ≡ change F (take len conn) c x (take ol w) ++ drop (ol + x) conn → take len w′ ≡ take len conn
@@ -152,7 +152,7 @@ module _ {A : Type 0} (F : FieldOn A) where
               let l = size in
               let j : len + (ol + x - len) ≡ ol + x = omega arith in
               let rest : drop (ol + x) conn ≡ drop (ol + x) a =
-                    ap (λ i. drop i conn) (sym j) ∙ sym (drop-drop (ol + x - len) len conn) ∙ ap (drop (ol + x - len)) back-is ∙ drop-drop (ol + x - len) len a ∙ ap (λ i. drop i a) j in
+              ap (λ i. drop i conn) (sym j) ∙ sym (drop-drop (ol + x - len) len conn) ∙ ap (drop (ol + x - len)) back-is ∙ drop-drop (ol + x - len) len a ∙ ap (λ i. drop i a) j in
               let q : next ≡ record { conn = changed F st d; L = n + 1 - st .L; old = st .conn; old-d = d; x = 1 } = next-is ∙ turn-grows n st d (F .discrete d (F .𝟘)) (decLt n (2 * st .L)) wrong short in
               subst (λ t. Holds t a conn′ w′ (ol + x) len 1 r′) (sym q) (record {
                 len-is = omega arith;
@@ -160,7 +160,7 @@ module _ {A : Type 0} (F : FieldOn A) where
                 conn-is = out ∙ ap₂ _++_ changed-is rest;
                 old-is = saved ∙ front-is;
                 inverse-is = e′ ∙ ap (F .inv) is-d;
-                x-is = refl
+                x-is = refl;
               })
 
   pub start : (s a w : List A) (u v y : A) → 0 < length a → 0 < length w → u ≡ F .𝟙 → v ≡ F .𝟙 → y ≡ F .𝟙 → Kept s (set a 0 u) (set a 0 u) (set w 0 v) 0 1 1 1 y

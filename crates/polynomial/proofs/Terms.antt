@@ -47,4 +47,4 @@ module _ {A : Type 0} (F : FieldOn A) where
     pub term-past : length q ≤ n - i → sum ≡ times F (take (i + 1) p) (coeff F q) n
     term-past l =
         sym (times-more p (coeff F q) n i h k ∙ ap (λ t. times F (take i p) (coeff F q) n ⊕ coeff F p i ⊗ t) (coeff-high F q (n - i) l)
-          ∙ ap (λ t. times F (take i p) (coeff F q) n ⊕ t) (mul-zero F (coeff F p i)) ∙ add-zero F (times F (take i p) (coeff F q) n) ∙ sym inv)
+        ∙ ap (λ t. times F (take i p) (coeff F q) n ⊕ t) (mul-zero F (coeff F p i)) ∙ add-zero F (times F (take i p) (coeff F q) n) ∙ sym inv)

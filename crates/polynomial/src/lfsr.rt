@@ -95,7 +95,11 @@ pub(crate) fn run<F: Field>(s: &[F], conn: &mut [F], w: &mut [F]) -> usize
 /// The connection list of the shortest register that generates the terms s, first entry ONE, written at the front of
 /// the answer list; it answers its length, the register's plus 1. For N terms the answer list has room for N + 1 entries,
 /// and the second, which is all ZERO after, for 2N + 2.
-pub fn berlekamp_massey<F: Field>(s: &[F], answer: &mut [F], second: &mut [F]) -> Result<usize, ListFault>
+pub fn berlekamp_massey<F: Field>(
+    s: &[F],
+    answer: &mut [F],
+    second: &mut [F],
+) -> Result<usize, ListFault>
     ensures number { λ r. ⌜ r ≡ answered field (now (s .entry)) (now (answer .entry)) (now (second .entry)) ⌝ }
     ensures list { λ _. ⌜ now (answer .exit) ≡ filled field (now (s .entry)) (now (answer .entry)) (now (second .entry)) ⌝ }
     ensures after { λ _. ⌜ now (second .exit) ≡ cleared field (now (s .entry)) (now (answer .entry)) (now (second .entry)) ⌝ }

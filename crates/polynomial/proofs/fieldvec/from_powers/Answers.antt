@@ -23,9 +23,10 @@ pub loop-i-again : need.loop-i-again
 loop-i-again g c =
     let F = g .F·Field .field in
     let x = c .args .x in
-    let i = c .loop-i .i in
-    (filled-more (pow F x) (c .args .out .now) i (c .loop-i .out) (c .loop-i .inv .0) (c .loop-i .power) (omega arith) (c .loop-i .inv .1),
-      c .mul-power .ensures ∙ ap (F .mul x) (c .loop-i .inv .1) ∙ ap (pow F x) (sym (add-one i)))
+    let i = c .loop-i .i in (
+      filled-more (pow F x) (c .args .out .now) i (c .loop-i .out) (c .loop-i .inv .0) (c .loop-i .power) (omega arith) (c .loop-i .inv .1),
+      c .mul-power .ensures ∙ ap (F .mul x) (c .loop-i .inv .1) ∙ ap (pow F x) (sym (add-one i)),
+    )
 
 pub returns : need.returns
 returns g c =
@@ -38,5 +39,5 @@ returns g c =
     let all : c .loop-i .i ≡ n = omega arith in
     record {
       answer = count-room 1 new old (omega arith) room n (sym l);
-      answered = written-room 1 new old (omega arith) room n (sym l) (c .loop-i .out) (filled-all (pow F (c .args .x)) (c .loop-i .i) n new old (c .loop-i .out) all refl (c .loop-i .inv .0))
+      answered = written-room 1 new old (omega arith) room n (sym l) (c .loop-i .out) (filled-all (pow F (c .args .x)) (c .loop-i .i) n new old (c .loop-i .out) all refl (c .loop-i .inv .0));
     }

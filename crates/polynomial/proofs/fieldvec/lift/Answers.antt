@@ -18,7 +18,7 @@ returns-in-Break-n g c =
     let size : length p ≡ length (map up p) = sym (length-map p up) in
     record {
       answer = refuses (length p) (map up p) old (c .admit .result) (length p) (length p) (c .admit .ensures .answer) refl size (c .in-Break-n .field-0 .0) (c .in-Break-n .was tt) (c .from-residual .result) (c .from-residual .ensures .1);
-      answered = refuses-list (length p) (map up p) old (c .admit .result) (length p) (length p) (c .admit .ensures .answer) refl size (c .in-Break-n .field-0 .0) (c .in-Break-n .was tt)
+      answered = refuses-list (length p) (map up p) old (c .admit .result) (length p) (length p) (c .admit .ensures .answer) refl size (c .in-Break-n .field-0 .0) (c .in-Break-n .was tt);
     }
 
 pub loop-i-again : need.loop-i-again
@@ -47,6 +47,6 @@ returns g c =
     record {
       answer = accepts (length p) (map up p) old (c .admit .result) (length p) (length p) (c .admit .ensures .answer) refl size n (c .in-Continue-n .was tt);
       answered =
-        accepts-list (length p) (map up p) old (c .admit .result) (length p) (length p) (c .admit .ensures .answer) refl size n (c .loop-i .out) (c .in-Continue-n .was tt)
-        (filled-all (λ i. up (coeff B p i)) (c .loop-i .i) n (map up p) old (c .loop-i .out) all (tab-map B up p n (holds .0)) (c .loop-i .inv))
+          accepts-list (length p) (map up p) old (c .admit .result) (length p) (length p) (c .admit .ensures .answer) refl size n (c .loop-i .out) (c .in-Continue-n .was tt)
+          (filled-all (λ i. up (coeff B p i)) (c .loop-i .i) n (map up p) old (c .loop-i .out) all (tab-map B up p n (holds .0)) (c .loop-i .inv));
     }

@@ -19,7 +19,7 @@ returns-in-Break-n g c =
     let size : length p ≡ length (pointwise F p q) = sym (length-tab (length p) (λ i. F .mul (coeff F p i) (coeff F q i))) in
     record {
       answer = refuses (min (length p) (length q)) (pointwise F p q) old (c .admit .result) (c .min .result) (length p) (c .admit .ensures .answer) (c .min .ensures) size (c .in-Break-n .field-0 .0) (c .in-Break-n .was tt) (c .from-residual .result) (c .from-residual .ensures .1);
-      answered = refuses-list (min (length p) (length q)) (pointwise F p q) old (c .admit .result) (c .min .result) (length p) (c .admit .ensures .answer) (c .min .ensures) size (c .in-Break-n .field-0 .0) (c .in-Break-n .was tt)
+      answered = refuses-list (min (length p) (length q)) (pointwise F p q) old (c .admit .result) (c .min .result) (length p) (c .admit .ensures .answer) (c .min .ensures) size (c .in-Break-n .field-0 .0) (c .in-Break-n .was tt);
     }
 
 pub loop-i-again : need.loop-i-again
@@ -48,6 +48,6 @@ returns g c =
     record {
       answer = accepts (min (length p) (length q)) (pointwise F p q) old (c .admit .result) (c .min .result) (length p) (c .admit .ensures .answer) (c .min .ensures) size n (c .in-Continue-n .was tt);
       answered =
-        accepts-list (min (length p) (length q)) (pointwise F p q) old (c .admit .result) (c .min .result) (length p) (c .admit .ensures .answer) (c .min .ensures) size n (c .loop-i .list) (c .in-Continue-n .was tt)
-        (filled-all (λ i. F .mul (coeff F p i) (coeff F q i)) (c .loop-i .i) n (pointwise F p q) old (c .loop-i .list) all (ap (λ m. tab m (λ i. F .mul (coeff F p i) (coeff F q i))) (holds .0)) (c .loop-i .inv))
+          accepts-list (min (length p) (length q)) (pointwise F p q) old (c .admit .result) (c .min .result) (length p) (c .admit .ensures .answer) (c .min .ensures) size n (c .loop-i .list) (c .in-Continue-n .was tt)
+          (filled-all (λ i. F .mul (coeff F p i) (coeff F q i)) (c .loop-i .i) n (pointwise F p q) old (c .loop-i .list) all (ap (λ m. tab m (λ i. F .mul (coeff F p i) (coeff F q i))) (holds .0)) (c .loop-i .inv));
     }

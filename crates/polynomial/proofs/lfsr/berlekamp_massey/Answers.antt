@@ -22,7 +22,7 @@ returns-then-n-eq0 g c =
       number = judged-empty n (length a) (length w) Err (Ok (length (connection F s))) h;
       list = judged-empty n (length a) (length w) (λ _. a) (connection F s ++ drop (length (connection F s)) a) h;
       after = judged-empty n (length a) (length w) (λ _. w) (replicate (length w) (F .𝟘)) h;
-      shortest = shortest F (coeff F s) n
+      shortest = shortest F (coeff F s) n;
     }
 
 pub returns-then-answer-n : need.returns-then-answer-n
@@ -38,7 +38,7 @@ returns-then-answer-n g c =
       number = judged-short n (length a) (length w) Err (Ok (length (connection F s))) e h;
       list = judged-short n (length a) (length w) (λ _. a) (connection F s ++ drop (length (connection F s)) a) e h;
       after = judged-short n (length a) (length w) (λ _. w) (replicate (length w) (F .𝟘)) e h;
-      shortest = shortest F (coeff F s) n
+      shortest = shortest F (coeff F s) n;
     }
 
 pub returns-then-second-n : need.returns-then-second-n
@@ -55,7 +55,7 @@ returns-then-second-n g c =
       number = judged-second n (length a) (length w) Err (Ok (length (connection F s))) e h k;
       list = judged-second n (length a) (length w) (λ _. a) (connection F s ++ drop (length (connection F s)) a) e h k;
       after = judged-second n (length a) (length w) (λ _. w) (replicate (length w) (F .𝟘)) e h k;
-      shortest = shortest F (coeff F s) n
+      shortest = shortest F (coeff F s) n;
     }
 
 pub run-len-requires : need.run-len-requires
@@ -77,5 +77,5 @@ returns g c =
       number = ap Ok size ∙ judged-ok n (length a) (length w) Err (Ok (length (connection F s))) e h k;
       list = c .run-len .ensures .list ∙ ap (λ i. connection F s ++ drop i a) size ∙ judged-ok n (length a) (length w) (λ _. a) (connection F s ++ drop (length (connection F s)) a) e h k;
       after = c .clear .ensures ∙ ap (λ i. replicate i (F .𝟘)) same ∙ judged-ok n (length a) (length w) (λ _. w) (replicate (length w) (F .𝟘)) e h k;
-      shortest = shortest F (coeff F s) n
+      shortest = shortest F (coeff F s) n;
     }

@@ -39,5 +39,5 @@ returns g c =
     let kept : take len (drop m (putMid m (length w - m) w ys)) ≡ take len conn = ap (take len) at-m ∙ from ∙ fy in
     record {
       list = ap₂ _++_ (c .subtract-shifted .ensures ∙ ap₂ (λ p o. change F p k x o) (t1 ∙ zt) t2 ∙ ch) d1;
-      old = ap (take len) (c .move-down .ensures) ∙ take-at _ _ len (ap length kept ∙ lc) ∙ kept
+      old = ap (take len) (c .move-down .ensures) ∙ take-at _ _ len (ap length kept ∙ lc) ∙ kept;
     }

@@ -19,8 +19,8 @@ loop-i-again g c =
     let p = take k (drop m e) in
     let inside : m + i < length e = omega arith in
     let moved : y ≡ coeff F p i =
-          c .index-w-m .is ∙ filled-read (coeff F p) e i (c .loop-i .w) (c .loop-i .inv) (m + i) y (omega arith) ∙ getD-default e (m + i) y (F .𝟘) inside
-          ∙ sym (getD-take k (drop m e) i (F .𝟘) (omega arith) ∙ getD-drop m e i (F .𝟘)) in
+    c .index-w-m .is ∙ filled-read (coeff F p) e i (c .loop-i .w) (c .loop-i .inv) (m + i) y (omega arith) ∙ getD-default e (m + i) y (F .𝟘) inside
+    ∙ sym (getD-take k (drop m e) i (F .𝟘) (omega arith) ∙ getD-drop m e i (F .𝟘)) in
     filled-more (coeff F p) e i (c .loop-i .w) (c .loop-i .inv) y (omega arith) moved
 
 pub returns : need.returns

@@ -33,7 +33,7 @@ loop-n-again-then-old-len-x g c =
     let wrong = inverse-other F r (c .in-Ok .inverse) (c .in-Ok .ensures tt) in
     kept F s a (c .adjust .last .conn) (l .w) (l .n + 1) (l .len) (l .old-len) (l .x + 1) (l .old-inverse)
     (fits F s a (l .conn) (l .w) (l .n) (l .len) (l .old-len) (l .x) (l .old-inverse) (l .inv .1) r (c .product-term-d .ensures) wrong (c .mul-c .result) (c .mul-c .ensures)
-      (c .adjust .last .conn) (omega arith) (c .adjust .ensures))
+    (c .adjust .last .conn) (omega arith) (c .adjust .ensures))
 
 pub loop-n-again : need.loop-n-again
 loop-n-again g c =
@@ -46,7 +46,7 @@ loop-n-again g c =
     let inverse = inverse-is F r (c .in-Ok .inverse) (c .in-Ok .ensures tt) in
     kept F s a (c .grow .last .conn) (c .grow .last .w) (l .n + 1) (l .old-len + l .x) (l .len) 1 (c .in-Ok .inverse)
     (grows F s a (l .conn) (l .w) (l .n) (l .len) (l .old-len) (l .x) (l .old-inverse) (l .inv .1) r (c .product-term-d .ensures) wrong (c .mul-c .result) (c .mul-c .ensures)
-      (c .grow .last .conn) (c .grow .last .w) (c .in-Ok .inverse) inverse (λ t. omega arith) (c .grow .ensures .list) (c .grow .ensures .old))
+    (c .grow .last .conn) (c .grow .last .w) (c .in-Ok .inverse) inverse (λ t. omega arith) (c .grow .ensures .list) (c .grow .ensures .old))
 
 pub returns : need.returns
 returns g c =
@@ -60,5 +60,5 @@ returns g c =
       size = h .len-is ∙ ap length e;
       list = h .conn-is ∙ ap₂ _++_ e (past-first F (c .args .conn .now) (c .one .result) (l .len) (omega arith));
       some = omega arith;
-      short = omega arith
+      short = omega arith;
     }

@@ -24,7 +24,7 @@ loop-i-again g c =
     let new : c .difference .result ≡ F .add v (F .neg (F .mul k y)) = c .difference .ensures ∙ ap (λ t. F .add v (F .neg t)) (c .mul .ensures) in
     let read : v ≡ getD (change F p k x (take i o)) (i + x) v = c .index-conn-i .is ∙ ap (λ l. getD l (i + x) v) inv in
     let more : set (change F p k x (take i o)) (i + x) (F .add v (F .neg (F .mul k y))) ≡ change F p k x (take (i + 1) o)
-          = change-more F p k x o i y v (omega arith) (omega arith) (c .index-old-i .is) read in
+    = change-more F p k x o i y v (omega arith) (omega arith) (c .index-old-i .is) read in
     ap₂ (λ l r. set l (i + x) r) inv new ∙ more
 
 pub returns : need.returns

@@ -20,7 +20,7 @@ returns-in-Break-n g c =
     let size : c .max .result ≡ length (convolved F p s) = c .max .ensures ∙ ap (λ n. max n 1) many ∙ length-some-terms F (length s - degree F p) (λ j. times F p (coeff F s) (degree F p + j)) in
     record {
       answer = refuses (length p) (convolved F p s) old (c .admit .result) (length p) (c .max .result) (c .admit .ensures .answer) refl size (c .in-Break-n .field-0 .0) (c .in-Break-n .was tt) (c .from-residual .result) (c .from-residual .ensures .1);
-      answered = refuses-list (length p) (convolved F p s) old (c .admit .result) (length p) (c .max .result) (c .admit .ensures .answer) refl size (c .in-Break-n .field-0 .0) (c .in-Break-n .was tt)
+      answered = refuses-list (length p) (convolved F p s) old (c .admit .result) (length p) (c .max .result) (c .admit .ensures .answer) refl size (c .in-Break-n .field-0 .0) (c .in-Break-n .was tt);
     }
 
 pub returns-then-terms-eq0 : need.returns-then-terms-eq0
@@ -39,8 +39,8 @@ returns-then-terms-eq0 g c =
     record {
       answer = accepts (length p) (convolved F p s) old (c .admit .result) (length p) (c .max .result) (c .admit .ensures .answer) refl size n (c .in-Continue-n .was tt);
       answered =
-        accepts-list (length p) (convolved F p s) old (c .admit .result) (length p) (c .max .result) (c .admit .ensures .answer) refl size n _ (c .in-Continue-n .was tt)
-        (set-first F (c .zero .result) old n (c .zero .ensures) room one ∙ ap (λ t. t ++ drop n old) (sym (no-terms F (length s - degree F p) (λ j. times F p (coeff F s) (degree F p + j)) none)))
+          accepts-list (length p) (convolved F p s) old (c .admit .result) (length p) (c .max .result) (c .admit .ensures .answer) refl size n _ (c .in-Continue-n .was tt)
+          (set-first F (c .zero .result) old n (c .zero .ensures) room one ∙ ap (λ t. t ++ drop n old) (sym (no-terms F (length s - degree F p) (λ j. times F p (coeff F s) (degree F p + j)) none)));
     }
 
 pub returns : need.returns
@@ -57,10 +57,10 @@ returns g c =
     let some : 0 < length s - degree F p = omega arith in
     let all : k ≡ n = omega arith in
     let list : tab k (λ j. times F p (coeff F s) (c .top-power-power .result + j)) ≡ convolved F p s =
-          ap₂ (λ m d. tab m (λ j. times F p (coeff F s) (d + j))) many (c .top-power-power .ensures) ∙ terms F (length s - degree F p) (λ j. times F p (coeff F s) (degree F p + j)) some in
+    ap₂ (λ m d. tab m (λ j. times F p (coeff F s) (d + j))) many (c .top-power-power .ensures) ∙ terms F (length s - degree F p) (λ j. times F p (coeff F s) (degree F p + j)) some in
     record {
       answer = accepts (length p) (convolved F p s) old (c .admit .result) (length p) (c .max .result) (c .admit .ensures .answer) refl size n (c .in-Continue-n .was tt);
       answered =
-        accepts-list (length p) (convolved F p s) old (c .admit .result) (length p) (c .max .result) (c .admit .ensures .answer) refl size n (c .series-product .last .out) (c .in-Continue-n .was tt)
-        (c .series-product .ensures ∙ ap₂ (λ t m. t ++ drop m old) list all)
+          accepts-list (length p) (convolved F p s) old (c .admit .result) (length p) (c .max .result) (c .admit .ensures .answer) refl size n (c .series-product .last .out) (c .in-Continue-n .was tt)
+          (c .series-product .ensures ∙ ap₂ (λ t m. t ++ drop m old) list all);
     }

@@ -20,7 +20,7 @@ returns-in-Break-n g c =
     let size : c .top-power .result ≡ length (derivative F p) = c .top-power .ensures ∙ sym (length-tab (degree F p) (λ i. multiple F (coeff F p (suc i)) (suc i))) in
     record {
       answer = refuses (length p) (derivative F p) old (c .admit .result) (length p) (c .top-power .result) (c .admit .ensures .answer) refl size (c .in-Break-n .field-0 .0) (c .in-Break-n .was tt) (c .from-residual .result) (c .from-residual .ensures .1);
-      answered = refuses-list (length p) (derivative F p) old (c .admit .result) (length p) (c .top-power .result) (c .admit .ensures .answer) refl size (c .in-Break-n .field-0 .0) (c .in-Break-n .was tt)
+      answered = refuses-list (length p) (derivative F p) old (c .admit .result) (length p) (c .top-power .result) (c .admit .ensures .answer) refl size (c .in-Break-n .field-0 .0) (c .in-Break-n .was tt);
     }
 
 pub offset-list-i : need.offset-list-i
@@ -54,6 +54,6 @@ returns g c =
     record {
       answer = accepts (length p) (derivative F p) old (c .admit .result) (length p) (c .top-power .result) (c .admit .ensures .answer) refl size n (c .in-Continue-n .was tt);
       answered =
-        accepts-list (length p) (derivative F p) old (c .admit .result) (length p) (c .top-power .result) (c .admit .ensures .answer) refl size n (c .loop-i .out) (c .in-Continue-n .was tt)
-        (filled-all (λ i. multiple F (coeff F p (suc i)) (suc i)) (c .loop-i .i) n (derivative F p) old (c .loop-i .out) all (ap (λ m. tab m (λ i. multiple F (coeff F p (suc i)) (suc i))) (holds .0 ∙ c .top-power .ensures)) (c .loop-i .inv))
+          accepts-list (length p) (derivative F p) old (c .admit .result) (length p) (c .top-power .result) (c .admit .ensures .answer) refl size n (c .loop-i .out) (c .in-Continue-n .was tt)
+          (filled-all (λ i. multiple F (coeff F p (suc i)) (suc i)) (c .loop-i .i) n (derivative F p) old (c .loop-i .out) all (ap (λ m. tab m (λ i. multiple F (coeff F p (suc i)) (suc i))) (holds .0 ∙ c .top-power .ensures)) (c .loop-i .inv));
     }

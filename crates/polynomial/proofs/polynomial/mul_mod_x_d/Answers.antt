@@ -22,7 +22,7 @@ returns-in-Break-n g c =
     let size : c .min-2 .result ≡ length (product F p q d) = cut ∙ sym (length-tab (min d (degree F p + degree F q + 2)) (times F p (coeff F q))) in
     record {
       answer = refuses (min (length p) (length q)) (product F p q d) old (c .admit .result) (c .min .result) (c .min-2 .result) (c .admit .ensures .answer) (c .min .ensures) size (c .in-Break-n .field-0 .0) (c .in-Break-n .was tt) (c .from-residual .result) (c .from-residual .ensures .1);
-      answered = refuses-list (min (length p) (length q)) (product F p q d) old (c .admit .result) (c .min .result) (c .min-2 .result) (c .admit .ensures .answer) (c .min .ensures) size (c .in-Break-n .field-0 .0) (c .in-Break-n .was tt)
+      answered = refuses-list (min (length p) (length q)) (product F p q d) old (c .admit .result) (c .min .result) (c .min-2 .result) (c .admit .ensures .answer) (c .min .ensures) size (c .in-Break-n .field-0 .0) (c .in-Break-n .was tt);
     }
 
 pub returns : need.returns
@@ -39,6 +39,6 @@ returns g c =
     record {
       answer = accepts (min (length p) (length q)) (product F p q d) old (c .admit .result) (c .min .result) (c .min-2 .result) (c .admit .ensures .answer) (c .min .ensures) size n (c .in-Continue-n .was tt);
       answered =
-        accepts-list (min (length p) (length q)) (product F p q d) old (c .admit .result) (c .min .result) (c .min-2 .result) (c .admit .ensures .answer) (c .min .ensures) size n (c .series-product .last .out) (c .in-Continue-n .was tt)
-        (c .series-product .ensures ∙ ap (λ t. t ++ drop n old) (tab-from-zero n (min d (degree F p + degree F q + 2)) (times F p (coeff F q)) (holds .0 ∙ cut)))
+          accepts-list (min (length p) (length q)) (product F p q d) old (c .admit .result) (c .min .result) (c .min-2 .result) (c .admit .ensures .answer) (c .min .ensures) size n (c .series-product .last .out) (c .in-Continue-n .was tt)
+          (c .series-product .ensures ∙ ap (λ t. t ++ drop n old) (tab-from-zero n (min d (degree F p + degree F q + 2)) (times F p (coeff F q)) (holds .0 ∙ cut)));
     }

@@ -22,11 +22,13 @@ loop-i-again g c =
     let n = c .args .n in
     let i = c .loop-i .i in
     let h : i < length p = omega arith in
-    let k : i ≤ n = omega arith in
-    (omega arith,
+    let k : i ≤ n = omega arith in (
+      omega arith,
       elim (c .if-n-i .came) [
-        then-n-i w ↦ w .sum-is ∙ term-more F p q n i (c .loop-i .sum) (c .loop-i .inv .1) h k (w .index-p-i .result) (w .index-q-n .result) (w .add-sum .result) (omega arith) (w .index-p-i .is) (w .index-q-n .is) (w .add-sum .ensures ∙ ap (F .add (c .loop-i .sum)) (w .mul .ensures))
-      | else-n-i w ↦ w .sum-is ∙ term-past F p q n i (c .loop-i .sum) (c .loop-i .inv .1) h k (omega arith) ])
+        | then-n-i w ↦ w .sum-is ∙ term-more F p q n i (c .loop-i .sum) (c .loop-i .inv .1) h k (w .index-p-i .result) (w .index-q-n .result) (w .add-sum .result) (omega arith) (w .index-p-i .is) (w .index-q-n .is) (w .add-sum .ensures ∙ ap (F .add (c .loop-i .sum)) (w .mul .ensures))
+        | else-n-i w ↦ w .sum-is ∙ term-past F p q n i (c .loop-i .sum) (c .loop-i .inv .1) h k (omega arith)
+      ],
+    )
 
 pub returns : need.returns
 returns g c =

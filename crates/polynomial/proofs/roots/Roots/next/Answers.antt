@@ -23,8 +23,8 @@ returns g c =
     let given : 0 < length p = search needs in
     let some : 0 < k = omega arith in
     let all : coming F p self ≡ (n - k) ∷ left-over F p (self .base) n (k - 1) (F .mul (self .base) x) =
-          sym (c .seek-left .ensures .same n) ∙ finds F p (self .base) n k x some (c .seek-left .ensures .root some) in
+    sym (c .seek-left .ensures .same n) ∙ finds F p (self .base) n k x some (c .seek-left .ensures .root some) in
     record {
       answer = ap (λ i. Ok (Some i)) (c .saturating-sub .ensures) ∙ ap (λ is. Ok (nth is 0)) (sym all) ∙ asked-some (length p) (nth (coming F p self) 0) given;
-      rest = stepped F p self _ given (ap (left-over F p (self .base) n (k - 1)) (c .mul-self .ensures) ∙ ap (drop 1) (sym all))
+      rest = stepped F p self _ given (ap (left-over F p (self .base) n (k - 1)) (c .mul-self .ensures) ∙ ap (drop 1) (sym all));
     }
