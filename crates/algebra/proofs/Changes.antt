@@ -144,4 +144,4 @@ module _ {S E : Type 0} (s : FieldOn S) (e : FieldOn E) (up : S → E) (L : Lift
         let same : length n ≡ length b = omega arith in
         let long = length-changes s b n same in
         sum-more (s .add (a .symbol) (s .neg v)) (subP s (symbols b) n) (wrong (s .discrete) a v) (a .doubted) (wrong-places (s .discrete) b n) (doubted-places b)
-          (told s a v) (length-wrong s b n same ∙ sym long) (length-map b (λ a. a .doubted) ∙ sym long) (changes-sum b n same)
+        (told s a v) (length-wrong s b n same ∙ sym long) (length-map b (λ a. a .doubted) ∙ sym long) (changes-sum b n same)
