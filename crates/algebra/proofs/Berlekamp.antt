@@ -8,7 +8,7 @@ use lib.ListN.{length}
 use Rattle.algebra.specs.Field.{FieldOn}
 use Rattle.algebra.specs.Poly.{coeff}
 use Rattle.algebra.specs.Series.{times}
-use Rattle.algebra.specs.Register.{State, Generates, Shortest, begin, changed, turn, advance, register}
+use Rattle.algebra.specs.Register.{State, Generates, Shortest, begin, changed, kept, adjusted, grown, turn, advance, register}
 use Rattle.algebra.proofs.Laws.{ring}
 use Rattle.algebra.proofs.Solver.{:0, :1, _:+_, _:*_, :-_, _:-_, v0, v1, v2, solve}
 use Rattle.algebra.proofs.Series.{times-agree}
@@ -73,7 +73,7 @@ module _ {A : Type 0} (F : FieldOn A) where
           ∙ simp ring
 
     -- step 3: the next term is right
-    stays : d ≡ 𝟘 → Inv s (suc N) M (record { conn = st .conn; L = st .L; old = st .old; old-d = st .old-d; x = st .x + 1 })
+    stays : d ≡ 𝟘 → Inv s (suc N) M (kept F st)
     stays z =
         record {
           size = i .size;
@@ -94,7 +94,7 @@ module _ {A : Type 0} (F : FieldOn A) where
         by j h1 h2 (no q) = i .rule j h1 (omega arith)
 
     -- step 4: changed, at the same length
-    fits : N < 2 * st .L → Inv s (suc N) M (record { conn = changed F st d; L = st .L; old = st .old; old-d = st .old-d; x = st .x + 1 })
+    fits : N < 2 * st .L → Inv s (suc N) M (adjusted F st d)
     fits f =
         record {
           size = length-change F (st .conn) k (st .x) (st .old) ∙ omega (arith, i .size, i .old-size, i .sum);
@@ -111,7 +111,7 @@ module _ {A : Type 0} (F : FieldOn A) where
         }
 
     -- step 5: changed, and longer
-    grows : ¬ (d ≡ 𝟘) → ¬ (N < 2 * st .L) → Inv s (suc N) (st .L) (record { conn = changed F st d; L = N + 1 - st .L; old = st .conn; old-d = d; x = 1 })
+    grows : ¬ (d ≡ 𝟘) → ¬ (N < 2 * st .L) → Inv s (suc N) (st .L) (grown F N st d)
     grows wrong f =
         record {
           size = length-change F (st .conn) k (st .x) (st .old) ∙ omega (arith, i .size, i .old-size, i .sum);

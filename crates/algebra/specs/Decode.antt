@@ -5,14 +5,20 @@
 --   errata-evaluator the first d terms of errata locator × S
 --   change-at        Forney's value: - X W(1/X) / L'(1/X)
 --   Decoded          what these find, if the syndromes are those of changes Y
+--   root-position    the position that a root's index stands for
 use mathlib.Core.Path.{_≡_}
 use mathlib.Core.List.{List, _++_}
-use Prim.Native.Nat.{ℕ, _+_, _-_, _*_, _<_, _≤_}
+use Prim.Native.Nat.{ℕ, zero, suc, _+_, _-_, _*_, _<_, _≤_}
 use lib.ListN.{length}
 use Rattle.algebra.specs.Field.{FieldOn}
 use Rattle.algebra.specs.Poly.{eval, mulP, tab}
 use Rattle.algebra.specs.Series.{All, Mem, times, deriv, psum, locator, Apart, Distinct}
 use Rattle.algebra.specs.Register.{register}
+
+-- a^x is the inverse of a^p, n being the order of a: 0 stands for 0, x otherwise for n - x
+abbrev pub root-position : ℕ → ℕ → ℕ
+root-position n zero = 0
+root-position n (suc x) = n - suc x
 
 module _ {A : Type 0} (F : FieldOn A) {I : Type 0} (X : I → A) where
   open FieldOn F using (𝟘, mul as _⊗_, neg as ⊖_, inv)

@@ -51,11 +51,21 @@ module _ {A : Type 0} (F : FieldOn A) where
   abbrev pub changed : State A → A → List A
   changed st d = change (st .conn) (d ⊗ inv (st .old-d)) (st .x) (st .old)
 
-  -- steps 3 to 5 at term N, d being the discrepancy: the list is right, is changed, is changed and grows
+  -- step 3: the list is right; step 4: it is changed; step 5: it is changed, and the register grows
+  abbrev pub kept : State A → State A
+  kept st = record { conn = st .conn; L = st .L; old = st .old; old-d = st .old-d; x = st .x + 1 }
+
+  abbrev pub adjusted : State A → A → State A
+  adjusted st d = record { conn = changed st d; L = st .L; old = st .old; old-d = st .old-d; x = st .x + 1 }
+
+  abbrev pub grown : ℕ → State A → A → State A
+  grown N st d = record { conn = changed st d; L = N + 1 - st .L; old = st .conn; old-d = d; x = 1 }
+
+  -- which of them, at term N with the discrepancy d
   abbrev pub turn : (N : ℕ) (st : State A) (d : A) → Dec (d ≡ 𝟘) → Dec (N < 2 * st .L) → State A
-  turn N st d (yes right) long = record { conn = st .conn; L = st .L; old = st .old; old-d = st .old-d; x = st .x + 1 }
-  turn N st d (no wrong) (yes long) = record { conn = changed st d; L = st .L; old = st .old; old-d = st .old-d; x = st .x + 1 }
-  turn N st d (no wrong) (no short) = record { conn = changed st d; L = N + 1 - st .L; old = st .conn; old-d = d; x = 1 }
+  turn N st d (yes right) long = kept st
+  turn N st d (no wrong) (yes long) = adjusted st d
+  turn N st d (no wrong) (no short) = grown N st d
 
   -- one term more: step 2, the discrepancy, and the turn
   abbrev pub advance : (ℕ → A) → ℕ → State A → State A
