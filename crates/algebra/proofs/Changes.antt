@@ -65,7 +65,7 @@ pub psum-agree : {A : Type 0} (F : FieldOn A) {I : Type 0} (X : I → A) (Y Z : 
 psum-agree F X Y Z [] n h = refl
 psum-agree F X Y Z (p ∷ ps) n h = ap₂ (λ t u. F .add (F .mul t (pow F (X p) n)) u) (h .0) (psum-agree F X Y Z ps n (h .1))
 
--- a change in the syndromes: what stands at its position of cs, times the locator's power at the first root
+-- a change in the syndromes: what stands at its position of cs, times the locator's power at the first exponent
 abbrev pub weight : {S E : Type 0} → FieldOn S → FieldOn E → (S → E) → Code S E → List S → ℕ → E
 weight s e up C cs p = e .mul (up (coeff s (reverse cs) p)) (pow e (pow e (C .root) p) (C .first))
 
@@ -144,4 +144,4 @@ module _ {S E : Type 0} (s : FieldOn S) (e : FieldOn E) (up : S → E) (L : Lift
         let same : length n ≡ length b = omega arith in
         let long = length-changes s b n same in
         sum-more (s .add (a .symbol) (s .neg v)) (subP s (symbols b) n) (wrong (s .discrete) a v) (a .doubted) (wrong-places (s .discrete) b n) (doubted-places b)
-          (told s a v) (length-wrong s b n same ∙ sym long) (length-map b (λ a. a .doubted) ∙ sym long) (changes-sum b n same)
+        (told s a v) (length-wrong s b n same ∙ sym long) (length-map b (λ a. a .doubted) ∙ sym long) (changes-sum b n same)

@@ -72,7 +72,7 @@ module _ {S E : Type 0} (s : FieldOn S) (e : FieldOn E) (up : S → E) (L : Lift
       let le : length errs ≡ errors (s .discrete) b n = length-positions (wrong-places (s .discrete) b n) in
       let ld : length ers ≡ doubts b = length-positions (doubted-places b) in
       let zeros = vandermonde e (pow e (C .root)) (errs ++ ers) W (places-distinct s e up L C lawful b n same short)
-            (λ j h. sym (syndrome-sums s e up L C lawful b n sn same j (omega arith)) ∙ sound-syndromes (symbols b) sb j) in
+      (λ j h. sym (syndrome-sums s e up L C lawful b n sn same j (omega arith)) ∙ sound-syndromes (symbols b) sb j) in
       let none = all-none (λ p. W p ≡ 𝟘) errs (all-left (λ p. W p ≡ 𝟘) errs ers zeros) (weights-ne-zero s e up L C lawful b n same) in
       sym le ∙ ap length none
 

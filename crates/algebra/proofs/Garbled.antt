@@ -63,7 +63,7 @@ module _ {S E : Type 0} (s : FieldOn S) (e : FieldOn E) (up : S → E) (L : Lift
       let long : length (wrong-places (s .discrete) b n) ≡ length b = length-wrong s b n (omega arith) in
       let same : length (doubted-places b) ≡ length b = length-map b (λ a. a .doubted) in
       distinct-more e X (C .limit) locators-apart f (a .doubted) (wrong-places (s .discrete) b n) (doubted-places b) (never-both s c f (a .doubted) (told s a v)) (long ∙ sym same) (omega arith)
-        (places-distinct b n (omega arith) (omega arith))
+      (places-distinct b n (omega arith) (omega arith))
 
   -- an error's weight is not ZERO
   weights-more : (c : S) (cs : List S) (f g : Bool) (fs : List Bool) → Told s c f g → length fs ≡ length cs
@@ -73,7 +73,7 @@ module _ {S E : Type 0} (s : FieldOn S) (e : FieldOn E) (up : S → E) (L : Lift
       later : All (λ p. ¬ (weight s e up C (c ∷ cs) p ≡ 𝟘)) (positions fs)
       later =
           all-both (λ p. weight s e up C cs p ≡ weight s e up C (c ∷ cs) p) (λ p. ¬ (weight s e up C cs p ≡ 𝟘)) (λ p. ¬ (weight s e up C (c ∷ cs) p ≡ 𝟘))
-            (positions fs) (λ p k ne z. ne (k ∙ z)) (weight-later s e up L C c cs (positions fs) (positions-below fs (length cs) (omega arith))) h
+          (positions fs) (λ p k ne z. ne (k ∙ z)) (weight-later s e up L C c cs (positions fs) (positions-below fs (length cs) (omega arith))) h
 
       first : ¬ (c ≡ s .𝟘) → ¬ (weight s e up C (c ∷ cs) (length fs) ≡ 𝟘)
       first ne =
@@ -93,7 +93,7 @@ module _ {S E : Type 0} (s : FieldOn S) (e : FieldOn E) (up : S → E) (L : Lift
   weights-ne-zero (a ∷ b) (v ∷ n) h =
       let same : length n ≡ length b = omega arith in
       weights-more (s .add (a .symbol) (s .neg v)) (subP s (symbols b) n) (wrong (s .discrete) a v) (a .doubted) (wrong-places (s .discrete) b n)
-        (told s a v) (length-wrong s b n same ∙ sym (length-changes s b n same)) (weights-ne-zero b n same)
+      (told s a v) (length-wrong s b n same ∙ sym (length-changes s b n same)) (weights-ne-zero b n same)
 
   -- the syndromes of a book's row, seen from a sound row, are sums over the errors and the doubted places
   pub syndrome-sums : (b : Book S) (n : List S) → Sound s C n → length n ≡ length b → (j : ℕ) → j < bound C
@@ -111,5 +111,5 @@ module _ {S E : Type 0} (s : FieldOn S) (e : FieldOn E) (up : S → E) (L : Lift
         distinct = places-distinct b n (near .same-length) short;
         changed = weights-ne-zero b n (near .same-length);
         sums = syndrome-sums b n (near .sound) (near .same-length);
-        within = omega (arith, length-positions (wrong-places (s .discrete) b n), length-positions (doubted-places b))
+        within = omega (arith, length-positions (wrong-places (s .discrete) b n), length-positions (doubted-places b));
       }

@@ -11,7 +11,6 @@ use Rattle.algebra.proofs.Laws.{ring, add-zero, add-cancel, neg-unique, factor
 
 module _ {S E : Type 0} (s : FieldOn S) (e : FieldOn E) (up : S → E) (L : Lifts s e up) where
   open FieldOn s using (𝟘 as s0, 𝟙 as s1, add as _+s_, neg as -s_)
-
   open FieldOn e using (𝟘, 𝟙, add as _⊕_, mul as _⊗_, neg as ⊖_)
 
   infixl 60 _⊕_

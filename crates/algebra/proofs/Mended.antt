@@ -52,15 +52,15 @@ module _ {S E : Type 0} (s : FieldOn S) (e : FieldOn E) (up : S → E) (L : Lift
 
   pub mends : Mends s e up C
   mends b n short near = record {
-      locates = found .locates;
-      as-many = found .as-many ∙ ap (λ k. k + 1) (length-positions (wrong-places (s .discrete) b n));
-      root = found .root;
-      no-other = λ p h z. member p h z (mem? p errs);
-      apart = found .no-other;
-      sloped = found .sloped;
-      value = value;
-      drops = λ p m r h. dropped p (value p m) r h
-    }
+    locates = found .locates;
+    as-many = found .as-many ∙ ap (λ k. k + 1) (length-positions (wrong-places (s .discrete) b n));
+    root = found .root;
+    no-other = λ p h z. member p h z (mem? p errs);
+    apart = found .no-other;
+    sloped = found .sloped;
+    value = value;
+    drops = λ p m r h. dropped p (value p m) r h;
+  }
     where
       errs : List ℕ
       errs = error-positions s e up C b n

@@ -47,7 +47,7 @@ module _ {S : Type 0} (discrete : (x y : S) → Dec (x ≡ y)) where
       by : (d : Bool) (p : Dec (a .symbol ≡ v)) (q : Dec (a .symbol ≡ w)) (r : Dec (v ≡ w))
           → differ discrete n m ≤ errors discrete b n + errors discrete b m + doubts b
           → count (refuted r ∷ differing discrete n m)
-            ≤ count ((not d && refuted p) ∷ wrong-places discrete b n) + count ((not d && refuted q) ∷ wrong-places discrete b m) + count (d ∷ doubted-places b)
+          ≤ count ((not d && refuted p) ∷ wrong-places discrete b n) + count ((not d && refuted q) ∷ wrong-places discrete b m) + count (d ∷ doubted-places b)
       by true p q (yes r) ih = omega arith
       by true p q (no r) ih = omega arith
       by false (yes p) (yes q) (yes r) ih = omega arith

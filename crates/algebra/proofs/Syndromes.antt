@@ -57,8 +57,8 @@ module _ {S E : Type 0} (s : FieldOn S) (e : FieldOn E) (up : S → E) (L : Lift
         let b = pow e (C .root) j in
         let monic : map up (generator s C) ≡ map up (C .lower) ++ (𝟙 ∷ []) = map-push up (C .lower) (s .𝟙) ∙ ap (λ t. map up (C .lower) ++ (t ∷ [])) (up-one s e up L) in
         sym (eval-remainder e (map up (C .lower)) (map up (reverse (s .𝟙 ∷ row))) (map up (residue s C row)) b
-          (remainder-lifted s e up L (C .lower) (reverse (s .𝟙 ∷ row)) (residue s C row) (residue-remainder s C (lawful .some-checks) row))
-          (ap (λ g. eval e g b) (sym monic) ∙ lawful .roots j low high))
+        (remainder-lifted s e up L (C .lower) (reverse (s .𝟙 ∷ row)) (residue s C row) (residue-remainder s C (lawful .some-checks) row))
+        (ap (λ g. eval e g b) (sym monic) ∙ lawful .roots j low high))
 
     pub syndromes-of-changes : SyndromesOfChanges s e up C
     syndromes-of-changes row n sound same j low high =
@@ -66,7 +66,7 @@ module _ {S E : Type 0} (s : FieldOn S) (e : FieldOn E) (up : S → E) (L : Lift
         ap (λ t. eval e t b) (map-subP s e up L (residue s C row) (C .target))
         ∙ eval-subP e (map up (residue s C row)) (map up (C .target)) b
         ∙ ap₂ (λ t u. t ⊕ ⊖ u)
-            (residue-value row j low high ∙ value-cons (s .𝟙) row b)
-            (ap (λ t. at-root s e up C t j) (sym sound) ∙ residue-value n j low high ∙ value-cons (s .𝟙) n b ∙ ap (λ k. value e up n b ⊕ pow e b k ⊗ up (s .𝟙)) (sym same))
+        (residue-value row j low high ∙ value-cons (s .𝟙) row b)
+        (ap (λ t. at-root s e up C t j) (sym sound) ∙ residue-value n j low high ∙ value-cons (s .𝟙) n b ∙ ap (λ k. value e up n b ⊕ pow e b k ⊗ up (s .𝟙)) (sym same))
         ∙ solve e (value e up row b ∷ value e up n b ∷ pow e b (length row) ⊗ up (s .𝟙) ∷ []) (v0 :+ v2 :- (v1 :+ v2)) (v0 :- v1) refl
         ∙ sym (value-subP row n b same)

@@ -128,7 +128,7 @@ module _ {S E : Type 0} (s : FieldOn S) (e : FieldOn E) (up : S → E) (C : Code
   locator-of p = pow e (C .root) p
 
   -- what decoding finds by the syndromes of a book, its doubted places being erased: the locator of its errors, the
-  -- derivative at a position, and the change there, Forney's value less the locator's power at the first root
+  -- derivative at a position, and the change there, Forney's value over the locator's power at the first exponent
   module _ (b : Book S) where
     abbrev pub doubted-positions : List ℕ
     doubted-positions = positions (doubted-places b)
