@@ -17,7 +17,8 @@ use Rattle.algebra.proofs.Solver.{:0, _:+_, _:*_, v0, v1, v2, solve}
 use Rattle.algebra.proofs.Poly.{length-subP}
 use Rattle.algebra.proofs.Lifted.{up-zero}
 use Rattle.algebra.proofs.Powers.{pow-add, pow-mul}
-use Rattle.algebra.proofs.Flags.{all-map, positions-below}
+use Rattle.algebra.proofs.Flags.{positions-below}
+use Rattle.algebra.proofs.Members.{all-map}
 use Rattle.algebra.proofs.Syndromes.{value, value-cons}
 
 module _ {S : Type 0} (s : FieldOn S) where

@@ -7,7 +7,9 @@ use lib.Dec.{T, eqb}
 use Rattle.std.proofs.shelf.Tests.{eq-eqb}
 use Rattle.algebra.specs.Field.{FieldOn, Numbers, HasOrder, pow, divisors-to}
 use Rattle.algebra.proofs.Squaring.{quick, quick-is-pow}
-use Rattle.algebra.proofs.HasOrder.{All, all-map, order-by-divisors}
+use Rattle.algebra.specs.Series.{All}
+use Rattle.algebra.proofs.HasOrder.{order-by-divisors}
+use Rattle.algebra.proofs.Members.{all-map}
 
 module _ {A : Type 0} (F : FieldOn A) (N : Numbers A) where
   pub pow-is : (x y : A) (n : ℕ) → N .number (quick F x n) ≡ N .number y → pow F x n ≡ y

@@ -9,15 +9,7 @@ use lib.ListN.{length}
 use Rattle.algebra.specs.Field.{FieldOn}
 use Rattle.algebra.specs.Series.{All, Apart, Distinct}
 use Rattle.algebra.specs.Rows.{count, positions}
-use Rattle.algebra.proofs.Members.{all-left, all-right}
-
-pub all-map : {I : Type 0} (P Q : I → Type 0) → ((p : I) → P p → Q p) → (ps : List I) → All P ps → All Q ps
-all-map P Q f [] h = tt
-all-map P Q f (p ∷ ps) h = (f p (h .0), all-map P Q f ps (h .1))
-
-pub all-append : {I : Type 0} (P : I → Type 0) (ps qs : List I) → All P ps → All P qs → All P (ps ++ qs)
-all-append P [] qs h k = k
-all-append P (p ∷ ps) qs h k = (h .0, all-append P ps qs (h .1) k)
+use Rattle.algebra.proofs.Members.{all-append, all-left, all-map, all-right}
 
 -- what holds of each member and of none: there is none
 pub all-none : {I : Type 0} (P : I → Type 0) (ps : List I) → All P ps → All (λ p. ¬ P p) ps → ps ≡ []

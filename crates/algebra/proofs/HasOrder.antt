@@ -9,27 +9,16 @@ use native.Mathlib.Omega.{arith}
 use lib.Dec.{eqb}
 use Rattle.std.proofs.shelf.Tests.{eq-eqb}
 use Rattle.algebra.specs.Field.{FieldOn, HasOrder, pow, keep, divisors-to}
+use Rattle.algebra.specs.Series.{All}
+use Rattle.algebra.proofs.Members.{all-left}
 use Rattle.algebra.proofs.Powers.{one-pow, pow-add, pow-mul}
-
--- P holds of each number of a list
-abbrev pub All : (ℕ → Type 0) → List ℕ → Type 0
-All P [] = Unit {0}
-All P (d ∷ ds) = P d × All P ds
-
-pub all-map : (P Q : ℕ → Type 0) → ((n : ℕ) → P n → Q n) → (ns : List ℕ) → All P ns → All Q ns
-all-map P Q f [] h = tt
-all-map P Q f (n ∷ ns) h = (f n (h .0), all-map P Q f ns (h .1))
-
-all-front : (P : ℕ → Type 0) (ds es : List ℕ) → All P (ds ++ es) → All P ds
-all-front P [] es h = tt
-all-front P (d ∷ ds) es h = (h .0, all-front P ds es (h .1))
 
 all-last : (P : ℕ → Type 0) (ds : List ℕ) (d : ℕ) → All P (ds ++ (d ∷ [])) → P d
 all-last P [] d h = h .0
 all-last P (e ∷ ds) d h = all-last P ds d (h .1)
 
 all-kept : (P : ℕ → Type 0) (b : Bool) (ds : List ℕ) (d : ℕ) → All P (keep b d ds) → All P ds
-all-kept P true ds d h = all-front P ds (d ∷ []) h
+all-kept P true ds d h = all-left P ds (d ∷ []) h
 all-kept P false ds d h = h
 
 -- what holds of each listed divisor holds of each divisor

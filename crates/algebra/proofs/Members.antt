@@ -23,3 +23,11 @@ module _ {I : Type 0} where
   pub all-right : (P : I → Type 0) (ps qs : List I) → All P (ps ++ qs) → All P qs
   all-right P [] qs a = a
   all-right P (p ∷ ps) qs a = all-right P ps qs (a .1)
+
+  pub all-map : (P Q : I → Type 0) → ((p : I) → P p → Q p) → (ps : List I) → All P ps → All Q ps
+  all-map P Q f [] a = tt
+  all-map P Q f (p ∷ ps) a = (f p (a .0), all-map P Q f ps (a .1))
+
+  pub all-append : (P : I → Type 0) (ps qs : List I) → All P ps → All P qs → All P (ps ++ qs)
+  all-append P [] qs a b = b
+  all-append P (p ∷ ps) qs a b = (a .0, all-append P ps qs (a .1) b)

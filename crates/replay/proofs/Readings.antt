@@ -26,19 +26,19 @@ module _ {A : Type 0} (N : Numbers A) (text : List ℕ) (parts : List (RefT (Lis
       → ReadSoFar N text parts was rest elements → c ≡ 44 → true ≡ was → Parted (FindsChar c) rest (part .now) live later
       → Readable N (part .now) → x ≡ elementIn N (part .now) → more ≡ elements ++ (x ∷ [])
       → ReadSoFar N text (parts ++ (part ∷ [])) live later more
-  read-more c rest part was live later elements more x so-far comma is cut one e grown = record
-      { readable = rw map-append (all-push (Readable N) (texts parts) (part .now) (so-far .readable) one)
-      ; meant =
-          let grown-texts : texts (parts ++ (part ∷ [])) ≡ texts parts ++ (part .now ∷ []) = map-append (λ p. p .now) parts (part ∷ []) in
-          let m = map-append (elementIn N) (texts parts) (part .now ∷ []) in
-          cc
-      ; others =
-          let here : betweenCommas rest ≡ part .now ∷ coming live later = parted rest (part .now) live later (rw comma at cut) in
-          let before : texts parts ++ betweenCommas rest ≡ betweenCommas text = ap (λ v. texts parts ++ coming v rest) is ∙ so-far .others in
-          let regrouped = append-assoc (texts parts) (part .now ∷ []) (coming live later) in
-          let grown-texts : texts (parts ++ (part ∷ [])) ≡ texts parts ++ (part .now ∷ []) = map-append (λ p. p .now) parts (part ∷ []) in
-          cc
-      }
+  read-more c rest part was live later elements more x so-far comma is cut one e grown = record {
+    readable = rw map-append (all-push (Readable N) (texts parts) (part .now) (so-far .readable) one);
+    meant =
+        let grown-texts : texts (parts ++ (part ∷ [])) ≡ texts parts ++ (part .now ∷ []) = map-append (λ p. p .now) parts (part ∷ []) in
+        let m = map-append (elementIn N) (texts parts) (part .now ∷ []) in
+        cc;
+    others =
+        let here : betweenCommas rest ≡ part .now ∷ coming live later = parted rest (part .now) live later (rw comma at cut) in
+        let before : texts parts ++ betweenCommas rest ≡ betweenCommas text = ap (λ v. texts parts ++ coming v rest) is ∙ so-far .others in
+        let regrouped = append-assoc (texts parts) (part .now ∷ []) (coming live later) in
+        let grown-texts : texts (parts ++ (part ∷ [])) ≡ texts parts ++ (part .now ∷ []) = map-append (λ p. p .now) parts (part ∷ []) in
+        cc;
+  }
 
   pub read-all : (whole : List ℕ) (live : Bool) (rest : List ℕ) (elements : List A)
       → ReadSoFar N text parts live rest elements → false ≡ live → text ≡ whole → (whole ≡ 45 ∷ [] → ⊥) → ReadAs N whole elements

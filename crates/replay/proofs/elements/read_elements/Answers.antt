@@ -24,28 +24,28 @@ loop-part-again g c =
     let step = c .in-Some .ensures tt .steps in
     let kept = step .1 .0 in
     let comma = c .loop-part .inv .1 in
-    let read = c .in-Continue-read-element .ensures tt in
-    ( read-more
-        (g .F·Field .numbers)
-        (split-text (c .into-iter-part-iterator .result))
-        (c .loop-part .yielded)
-        (split-callee now)
-        (split-text now)
-        (c .in-Some .part)
-        (split-live now)
-        (split-live later)
-        (split-text later)
-        (vec-items (c .loop-part .elements))
-        (vec-items (c .push .last .self))
-        x
-        (c .loop-part .inv .0)
-        comma
-        (step .0)
-        (step .1 .1)
-        (read .0)
-        (read .1)
-        (pushed (x ∷ []) refl (c .in-Continue-push .was tt) (c .push .ensures .items))
-    , cc
+    let read = c .in-Continue-read-element .ensures tt in (
+      read-more
+          (g .F·Field .numbers)
+          (split-text (c .into-iter-part-iterator .result))
+          (c .loop-part .yielded)
+          (split-callee now)
+          (split-text now)
+          (c .in-Some .part)
+          (split-live now)
+          (split-live later)
+          (split-text later)
+          (vec-items (c .loop-part .elements))
+          (vec-items (c .push .last .self))
+          x
+          (c .loop-part .inv .0)
+          comma
+          (step .0)
+          (step .1 .1)
+          (read .0)
+          (read .1)
+          (pushed (x ∷ []) refl (c .in-Continue-push .was tt) (c .push .ensures .items)),
+      cc,
     )
 
 pub returns : need.returns
