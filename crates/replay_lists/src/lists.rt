@@ -1,4 +1,5 @@
 // The operations on coefficient lists.
+use crate::lent::zeros;
 use crate::outcomes::write_front;
 use crate::outcomes::write_number;
 use crate::outcomes::write_refusal;
@@ -16,7 +17,7 @@ use std::alloc::Global;
 use std::error::AnyError;
 
 fn derivative<F: Field>(heap: Global, list: &[F]) -> Result<String, AnyError> {
-    let mut lent = vec![in heap; F::zero(); list.len()]?;
+    let mut lent = zeros(heap, list.len())?;
     let outcome = formal_derivative(list, lent.as_mut_slice());
     write_front(heap, outcome, lent.as_slice())
 }
@@ -29,13 +30,13 @@ fn product<F: Field>(heap: Global, cut: &str, a: &[F], b: &[F]) -> Result<String
     } else {
         cut.parse::<usize>()?
     };
-    let mut lent = vec![in heap; F::zero(); room]?;
+    let mut lent = zeros(heap, room)?;
     let outcome = mul_mod_x_d(a, b, d, lent.as_mut_slice());
     write_front(heap, outcome, lent.as_slice())
 }
 
 fn convolved<F: Field>(heap: Global, a: &[F], s: &[F]) -> Result<String, AnyError> {
-    let mut lent = vec![in heap; F::zero(); s.len().max(1)]?;
+    let mut lent = zeros(heap, s.len().max(1))?;
     let outcome = convolution(a, s, lent.as_mut_slice());
     write_front(heap, outcome, lent.as_slice())
 }

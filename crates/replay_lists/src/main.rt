@@ -7,6 +7,7 @@
 //     P SIZE mulmod D A B    the product of A and B below the power D; max cuts nothing off
 //     P SIZE conv A S        the convolution of A with S
 //     R SIZE S               the connection list of the shortest register that generates the terms S
+mod lent;
 mod lists;
 mod outcomes;
 mod registers;
@@ -33,9 +34,9 @@ fn answer_in<F: Field>(heap: Global, letter: &str, command: &str) -> Result<Stri
     }
 }
 
-enum Lists {}
+enum ListsAndRegisters {}
 
-impl Answers for Lists as ListAnswers {
+impl Answers for ListsAndRegisters as ListAnswers {
     fn answer(heap: Global, command: &str) -> Result<String, AnyError> {
         let Some((letter, rest)) = command.split_once(' ') else {
             return Err("a command without a field".into());
@@ -53,5 +54,5 @@ impl Answers for Lists as ListAnswers {
 }
 
 fn main(rt: LibcRuntime) -> Result<(), AnyError> {
-    rt.report(replay::<Lists>(&rt))
+    rt.report(replay::<ListsAndRegisters>(&rt))
 }
