@@ -36,7 +36,7 @@ pub fn read_boat_line(line: &[u8]) -> Result<BoatLine, LineFault>
 }
 
 // The case of the first letter, small where there is none.
-fn line_case(line: &[u8]) -> Case
+pub(crate) fn line_case(line: &[u8]) -> Case
     ensures { λ r. ⌜ r ≡ lineCase (now (line .entry)) ⌝ }
 {
     for byte in line {
