@@ -41,11 +41,11 @@ closed-calls [] parts = refl
 closed-calls (byte ∷ bytes) parts = refl
 
 module _ (front bytes : List ℕ) (byte : ℕ)
-  (apart : joined callsOfPart (piecesAfter [] bytes) ≡ callsOfBytes (beforeSlash bytes))
-  (on : joined callsOfPart (piecesAfter (front ++ byte ∷ []) bytes) ≡ callsOfBytes (front ++ byte ∷ []) ++ callsOfBytes (beforeSlash bytes)) where
+    (apart : joined callsOfPart (piecesAfter [] bytes) ≡ callsOfBytes (beforeSlash bytes))
+    (on : joined callsOfPart (piecesAfter (front ++ byte ∷ []) bytes) ≡ callsOfBytes (front ++ byte ∷ []) ++ callsOfBytes (beforeSlash bytes)) where
   one-byte-calls : (slash space : Bool) → eqb byte 32 ≡ space →
-    joined callsOfPart (cond slash (closed front (remark bytes ∷ [])) (cond space (closed front (piecesAfter [] bytes)) (piecesAfter (front ++ byte ∷ []) bytes)))
-    ≡ callsOfBytes front ++ callsOfBytes (cond slash [] (byte ∷ beforeSlash bytes))
+      joined callsOfPart (cond slash (closed front (remark bytes ∷ [])) (cond space (closed front (piecesAfter [] bytes)) (piecesAfter (front ++ byte ∷ []) bytes)))
+      ≡ callsOfBytes front ++ callsOfBytes (cond slash [] (byte ∷ beforeSlash bytes))
   one-byte-calls true space s = closed-calls front (remark bytes ∷ [])
   one-byte-calls false true s =
       closed-calls front (piecesAfter [] bytes) ∙ ap (λ calls. callsOfBytes front ++ calls) apart
@@ -61,7 +61,7 @@ pieces-calls (byte ∷ bytes) front =
 
 -- the calls of bytes that are all taken are all accepted
 module _ (case : Case) (place byte : ℕ) (bytes : List ℕ) (b last : Book)
-  (rest : (c : Book) → takenAll true case (place + 1) bytes c ≡ Ok last → madeAll (callsOfBytes bytes) c ≡ Ok last) where
+    (rest : (c : Book) → takenAll true case (place + 1) bytes c ≡ Ok last → madeAll (callsOfBytes bytes) c ≡ Ok last) where
   call-made : (called : Result Book SlipFault) → andThen (atByte place called) (takenAll true case (place + 1) bytes) ≡ Ok last → andThen called (madeAll (callsOfBytes bytes)) ≡ Ok last
   call-made (Ok next) e = rest next e
   call-made (Err fault) e = never _ last e

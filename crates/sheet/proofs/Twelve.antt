@@ -26,8 +26,8 @@ module _ (xs : List ℕ) (twelve : length xs ≡ 12) where
       ∙ ap (λ (a : ℕ). fourDigits a (getD xs 5 0) (getD xs 6 0) (getD xs 7 0)) (zero-add (getD xs 4 0))
 
   module _ (sail tenths : ℕ)
-    (s : sail ≡ fourDigits (getD xs 0 0) (getD xs 1 0) (getD xs 2 0) (getD xs 3 0))
-    (t : tenths ≡ fourDigits (getD xs 4 0) (getD xs 5 0) (getD xs 6 0) (getD xs 7 0)) where
+      (s : sail ≡ fourDigits (getD xs 0 0) (getD xs 1 0) (getD xs 2 0) (getD xs 3 0))
+      (t : tenths ≡ fourDigits (getD xs 4 0) (getD xs 5 0) (getD xs 6 0) (getD xs 7 0)) where
     both-read : withinDay sail tenths ≡ readOff xs
     both-read =
         ap₂ withinDay (s ∙ sym first-four) (t ∙ sym second-four)

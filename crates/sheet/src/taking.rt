@@ -73,7 +73,13 @@ fn take_groups(slip: &mut Slip, groups: &[u8], case: Case, blanks: bool) -> Resu
 }
 
 // That a byte is outside the set comes before that it is in the other case, and that before want of room.
-fn take_byte(slip: &mut Slip, byte: u8, place: usize, case: Case, blanks: bool) -> Result<(), LineFault>
+fn take_byte(
+    slip: &mut Slip,
+    byte: u8,
+    place: usize,
+    case: Case,
+    blanks: bool,
+) -> Result<(), LineFault>
     ensures { λ r. ⌜ outcome r (view (now (slip .exit))) ≡ taken blanks case place byte (view (now (slip .entry))) ⌝ }
 {
     if byte == b' ' {

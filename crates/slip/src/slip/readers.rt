@@ -18,14 +18,22 @@ impl Slip {
     pub fn symbol(&self, place: usize) -> Option<u8>
         ensures { λ r. ⌜ r ≡ symbolAt place (view (now (self .entry))) ⌝ }
     {
-        if place < self.len { Some(self.symbols[place]) } else { None }
+        if place < self.len {
+            Some(self.symbols[place])
+        } else {
+            None
+        }
     }
 
     /// Whether a place is doubted; past the last none is.
     pub fn is_doubted(&self, place: usize) -> bool
         ensures { λ r. ⌜ r ≡ doubtedAt place (view (now (self .entry))) ⌝ }
     {
-        if place < self.len { self.doubted[place] } else { false }
+        if place < self.len {
+            self.doubted[place]
+        } else {
+            false
+        }
     }
 
     /// How many places are doubted.

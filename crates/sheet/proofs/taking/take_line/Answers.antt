@@ -7,5 +7,5 @@ returns c =
     record {
       answer = c .take .ensures .answer;
       book = c .take .ensures .book;
-      calls = line-made (c .args .line .now) (view (c .args .slip .now)) _ _ (c .take .ensures .answer) (c .take .ensures .book)
+      calls = line-made (c .args .line .now) (view (c .args .slip .now)) _ _ (c .take .ensures .answer) (c .take .ensures .book);
     }

@@ -15,12 +15,13 @@ loop-mark-again c =
     let i = c .loop-mark .mark-index in
     let m : trues (drop i ms) ≡ cond (getD ms i false) 1 0 + trues (drop (i + 1) ms) = at-drop-more trues ms i false (c .loop-mark-test .taken) in
     elim (c .if-mark .came) [
-      then-mark w ↦
-        let e : _≡_ {A = ℕ} (cond (getD ms i false) 1 0) 1 = cond-true (getD ms i false) 1 0 (w .if-mark .taken) in
-        (omega (arith, w .n-is), omega (arith, w .n-is))
-    | else-mark w ↦
-        let e : _≡_ {A = ℕ} (cond (getD ms i false) 1 0) 0 = cond-false (getD ms i false) 1 0 (w .if-mark .left) in
-        (omega (arith, w .n-is), omega (arith, w .n-is)) ]
+      | then-mark w ↦
+          let e : _≡_ {A = ℕ} (cond (getD ms i false) 1 0) 1 = cond-true (getD ms i false) 1 0 (w .if-mark .taken) in
+          (omega (arith, w .n-is), omega (arith, w .n-is))
+      | else-mark w ↦
+          let e : _≡_ {A = ℕ} (cond (getD ms i false) 1 0) 0 = cond-false (getD ms i false) 1 0 (w .if-mark .left) in
+          (omega (arith, w .n-is), omega (arith, w .n-is))
+    ]
 
 pub returns : need.returns
 returns c =
