@@ -12,8 +12,7 @@ use Rattle.std.proofs.shelf.Lists.{at-drop-more, at-drop-all, take-all, take-mo
 use Rattle.std.proofs.shelf.Tests.{cond-true, cond-false, eq-eqb, ne-eqb}
 use Rattle.slip.specs.Book.{Book, answer, after, fresh}
 use Rattle.slip.specs.declared.fault.SlipFault.{SlipFault}
-use Rattle.sheet.specs.Lines.{lineCase}
-use Rattle.sheet.specs.Taking.{beforeSlash, atByte, andThen, taken, takenAll, takeGroups, takeLine, outcome}
+use Rattle.sheet.specs.Taking.{beforeSlash, lineCase, atByte, andThen, taken, takenAll, takeGroups, takeLine, outcome}
 use Rattle.sheet.specs.declared.characters.Case.{Case}
 use Rattle.sheet.specs.declared.fault.LineFault.{LineFault}
 

@@ -16,8 +16,7 @@ use Rattle.slip.specs.declared.fault.SlipFault.{SlipFault}
 use Rattle.typed.specs.Pieces.{Part, remark, closed, piecesAfter}
 use Rattle.sheet.specs.Calls.{Call, madeAll, callOf, callsOf, callsOfBytes, callsOfPart}
 use Rattle.sheet.specs.Characters.{characterOf}
-use Rattle.sheet.specs.Lines.{isOther, lineCase}
-use Rattle.sheet.specs.Taking.{beforeSlash, atByte, andThen, entered, takenAll, takeLine}
+use Rattle.sheet.specs.Taking.{beforeSlash, isOther, lineCase, atByte, andThen, entered, takenAll, takeLine}
 use Rattle.sheet.specs.declared.characters.Character.{Character}
 use Rattle.sheet.specs.declared.characters.Character.the-variants.{Symbol, QuestionMark, Outside}
 use Rattle.sheet.specs.declared.characters.Case.{Case}

@@ -1,8 +1,7 @@
 pub mod BytesTaken
 pub mod CallsMade
-pub mod EightSymbols
+pub mod EightSealed
 pub mod Listed
 pub mod Placing
 pub mod ReadBack
-pub mod SymbolBounds
 pub mod Twelve

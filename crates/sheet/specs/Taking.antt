@@ -1,26 +1,39 @@
 -- What a typed line does to a slip's book. Assumes nothing.
 --   beforeSlash   the part of a line that holds its groups
+--   lineCase      the case of a line
 --   taken         one byte of that part: the book after it, or why the line is refused there
 --   takeLine      a whole line, on a fresh book
 use Prim.Native.Nat.{ℕ, _+_}
 use mathlib.Core.Bool.{Bool, cond}
 use mathlib.Core.List.{List, [], _∷_}
 use lib.Dec.{eqb}
+use Rattle.std.specs.Options.{valueOr}
+use Rattle.std.specs.Text.{asciiLower, asciiUpper}
 use Rattle.std.specs.declared.result.Result.{Result}
 use Rattle.std.specs.declared.result.Result.the-variants.{Ok, Err}
 use Rattle.slip.specs.Book.{Book, fresh, write, blank}
 use Rattle.slip.specs.declared.fault.SlipFault.{SlipFault}
-use Rattle.sheet.specs.Characters.{characterOf}
-use Rattle.sheet.specs.Lines.{isOther, lineCase}
+use Rattle.sheet.specs.Characters.{caseOf, characterOf}
 use Rattle.sheet.specs.declared.characters.Character.{Character}
 use Rattle.sheet.specs.declared.characters.Character.the-variants.{Symbol, QuestionMark, Outside}
 use Rattle.sheet.specs.declared.characters.Case.{Case}
+use Rattle.sheet.specs.declared.characters.Case.the-variants.{Lower, Upper}
 use Rattle.sheet.specs.declared.fault.LineFault.{LineFault}
 use Rattle.sheet.specs.declared.fault.LineFault.the-variants.{OnSlip, OutsideSet, OtherCase}
 
 abbrev pub beforeSlash : List ℕ → List ℕ
 beforeSlash [] = []
 beforeSlash (byte ∷ bytes) = cond (eqb byte 47) [] (byte ∷ beforeSlash bytes)
+
+-- the case of a line is that of its first letter, small where it has none
+abbrev pub lineCase : List ℕ → Case
+lineCase [] = Lower
+lineCase (byte ∷ bytes) = valueOr (caseOf byte) (lineCase bytes)
+
+-- whether a byte is a letter of the other case
+abbrev pub isOther : Case → ℕ → Bool
+isOther Lower byte = asciiUpper byte
+isOther Upper byte = asciiLower byte
 
 -- what the slip answers to a byte: a refusal is the line's, at that byte
 abbrev pub atByte : {B : Type 0} → ℕ → Result B SlipFault → Result B LineFault

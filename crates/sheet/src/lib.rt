@@ -2,7 +2,6 @@
 pub mod characters;
 pub mod fault;
 pub mod groups;
-pub mod line;
 pub mod reading_off;
 pub mod sealed;
 pub mod sheet_fault;

@@ -2,8 +2,7 @@
 ghost use mathlib.Core.Bool.{true, false};
 ghost use mathlib.Core.Path.{_≡_};
 ghost use Rattle.sheet.specs.Calls.{callsOf, madeAll};
-ghost use Rattle.sheet.specs.Lines.{isOther};
-ghost use Rattle.sheet.specs.Taking.{atByte, beforeSlash, outcome, taken, takenAll, takeLine};
+ghost use Rattle.sheet.specs.Taking.{atByte, beforeSlash, isOther, lineCase, outcome, taken, takenAll, takeLine};
 ghost use Rattle.slip.specs.Book.{after, answer, fresh};
 ghost use Rattle.slip.specs.View.{view};
 ghost use Rattle.std.specs.declared.result.Result.the-variants.{Ok};
@@ -13,7 +12,6 @@ use crate::characters::Character;
 use crate::characters::letter_case;
 use crate::characters::read_character;
 use crate::fault::LineFault;
-use crate::line::line_case;
 use slip::fault::SlipFault;
 use slip::slip::Slip;
 
@@ -52,7 +50,7 @@ fn take(slip: &mut Slip, line: &[u8], blanks: bool) -> Result<(), LineFault>
 }
 
 // The part of a line that holds its groups.
-fn before_slash(line: &[u8]) -> &[u8]
+pub(crate) fn before_slash(line: &[u8]) -> &[u8]
     ensures { λ r. ⌜ now r ≡ beforeSlash (now (line .entry)) ⌝ }
 {
     for (i, byte) in line.iter().enumerate() {
@@ -61,6 +59,18 @@ fn before_slash(line: &[u8]) -> &[u8]
         }
     }
     line
+}
+
+// The case of the first letter, small where there is none.
+pub(crate) fn line_case(line: &[u8]) -> Case
+    ensures { λ r. ⌜ r ≡ lineCase (now (line .entry)) ⌝ }
+{
+    for byte in line {
+        if let Some(case) = letter_case(*byte) {
+            return case;
+        }
+    }
+    Case::Lower
 }
 
 fn take_groups(slip: &mut Slip, groups: &[u8], case: Case, blanks: bool) -> Result<(), LineFault>

@@ -1,5 +1,4 @@
 // What is done to a slip, but for sealing it.
-ghost use mathlib.Core.List.{[]};
 ghost use mathlib.Core.Path.{_≡_};
 ghost use Rattle.slip.specs.Book.{answer, after, write, blank, doubt, fresh};
 ghost use Rattle.slip.specs.View.{view};

@@ -29,11 +29,7 @@ impl Slip {
     pub fn is_doubted(&self, place: usize) -> bool
         ensures { λ r. ⌜ r ≡ doubtedAt place (view (now (self .entry))) ⌝ }
     {
-        if place < self.len {
-            self.doubted[place]
-        } else {
-            false
-        }
+        place < self.len && self.doubted[place]
     }
 
     /// How many places are doubted.
@@ -61,6 +57,7 @@ impl Slip {
     }
 }
 
+// How many flags are set.
 fn count(flags: &[bool]) -> usize
     ensures { λ r. ⌜ r ≡ trues (now (flags .entry)) ⌝ }
 {

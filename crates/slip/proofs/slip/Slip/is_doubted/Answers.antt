@@ -1,6 +1,7 @@
-use mathlib.Core.Path.{_≡_, sym}
+use mathlib.Core.Path.{_≡_, sym, _∙_}
 use native.Mathlib.Omega.{arith}
 use lib.ListN.{length}
+use Rattle.std.proofs.shelf.Tests.{le-ltb}
 use Rattle.slip.specs.View.{view}
 use Rattle.slip.proofs.Places.{length-view, doubtedAt-places, doubtedAt-past}
 use Rattle.slip.proofs.slip.Slip.is_doubted.Needs as need
@@ -14,4 +15,4 @@ pub returns-else-place-self : need.returns-else-place-self
 returns-else-place-self c =
     let s = c .args .self .now in
     let l = length-view s in
-    sym (doubtedAt-past (view s) (c .args .place) (omega arith))
+    le-ltb (c .args .place) (s .len) (omega arith) ∙ sym (doubtedAt-past (view s) (c .args .place) (omega arith))

@@ -3,8 +3,8 @@ use lib.ListN.{drop}
 use Prim.Native.Nat.{_+_}
 use Rattle.std.specs.Options.{valueOr}
 use Rattle.std.proofs.shelf.Lists.{at-drop-more, at-drop-all}
-use Rattle.sheet.specs.Lines.{lineCase}
-use Rattle.sheet.proofs.line.line_case.Needs as need
+use Rattle.sheet.specs.Taking.{lineCase}
+use Rattle.sheet.proofs.taking.line_case.Needs as need
 
 pub returns-in-Some : need.returns-in-Some
 returns-in-Some c =
