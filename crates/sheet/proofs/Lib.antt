@@ -1,5 +1,7 @@
-pub mod EightSymbols
+pub mod BytesTaken
+pub mod CallsMade
+pub mod EightSealed
 pub mod Listed
 pub mod Placing
 pub mod ReadBack
-pub mod SymbolBounds
+pub mod Twelve

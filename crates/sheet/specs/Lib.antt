@@ -1,5 +1,8 @@
+pub mod Calls
 pub mod Characters
 pub mod Faults
 pub mod Groups
-pub mod Lines
+pub mod ReadingOff
 pub mod Sealed
+pub mod SheetFaults
+pub mod Taking

@@ -1,6 +1,8 @@
-// What crews type and what is written for them: characters, a boat's line, and rows in groups of four.
+// What crews type and what is written for them: characters, typed lines on slips, rows in groups of four, reading off.
 pub mod characters;
 pub mod fault;
 pub mod groups;
-pub mod line;
+pub mod reading_off;
 pub mod sealed;
+pub mod sheet_fault;
+pub mod taking;

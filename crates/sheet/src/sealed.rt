@@ -1,68 +1,43 @@
 // A boat's line, sealed by the finish code.
-ghost use lib.ListN.{getD, length};
+ghost use lib.ListN.{length};
 ghost use mathlib.Core.Path.{_≡_};
-ghost use Prim.Native.Nat.{ℕ, _<_};
-ghost use Rattle.gf32.specs.Gf32.{gf32-numbers};
 ghost use Rattle.sheet.specs.Sealed.{sealedLine, sealedRow};
+ghost use Rattle.slip.specs.Book.{row};
+ghost use Rattle.slip.specs.View.{view};
 use crate::fault::LineFault;
 use crate::groups::write_groups;
-use crate::line::read_boat_line;
-use checksum::engine::seal;
+use crate::taking::before_slash;
+use crate::taking::line_case;
+use crate::taking::take_known_line;
 use checksum::finish::Finish;
 use checksum::finish::FinishChecksum;
-use field::field::Field;
-use gf32::gf32::Fe32;
-use gf32::gf32::arithmetic::Fe32Field;
+use slip::slip::Slip;
+
+/// How many symbols stand for a boat and a time.
+const BOAT_AND_TIME: usize = 8;
 
 /// The sealed row of a boat's line, as text in the line's own case: the eight symbols and the four that seal them, in three
-/// groups of four. Refused where the line is.
+/// groups of four. Refused where the line is, and where it holds other than eight symbols.
 pub fn seal_line(line: &[u8]) -> Result<[u8; 14], LineFault>
     ensures { λ r. ⌜ r ≡ sealedLine (now (line .entry)) ⌝ }
 {
-    let boat = read_boat_line(line)?;
-    let row = sealed_row(&boat.symbols);
-    Ok(write_groups(&row, boat.case))
-}
-
-// The eight symbols, and behind them the four that seal them.
-fn sealed_row(symbols: &[u8; 8]) -> [u8; 12]
-    requires { ⌜ ((k : ℕ) → getD (now symbols) k 0 < 32) ⌝ }
-    ensures { λ r. ⌜ r ≡ sealedRow (now (symbols .entry)) ⌝ }
-{
-    let [a, b, c, d, e, f, g, h] = *symbols;
-    let checks = seal::<Finish>(
-        &[
-            element(a),
-            element(b),
-            element(c),
-            element(d),
-            element(e),
-            element(f),
-            element(g),
-            element(h),
-        ],
-    );
-    let [p, q, r, s] = [
-        number(checks[0]),
-        number(checks[1]),
-        number(checks[2]),
-        number(checks[3]),
-    ];
-    [a, b, c, d, e, f, g, h, p, q, r, s]
-}
-
-fn element(symbol: u8) -> Fe32
-    requires { ⌜ symbol < 32 ⌝ }
-    ensures { λ r. ⌜ r ≡ gf32-numbers .element symbol ⌝ }
-{
-    match Fe32::from_number(u16::from(symbol)) {
-        Some(element) => element,
-        None => unreachable(),
+    let mut slip = Slip::new();
+    take_known_line(&mut slip, line)?;
+    if slip.len() != BOAT_AND_TIME {
+        return Err(LineFault::SymbolCount);
     }
+    let sealed = sealed_row(&mut slip);
+    let groups = before_slash(line);
+    Ok(write_groups(&sealed, line_case(groups)))
 }
 
-fn number(element: Fe32) -> u8
-    ensures { λ r. ⌜ r ≡ gf32-numbers .number element ⌝ }
+// The row of a slip that holds a boat and a time, sealed: the code has room for it.
+fn sealed_row(slip: &mut Slip) -> [u8; 12]
+    requires { ⌜ length (view (now slip)) ≡ 8 ⌝ }
+    ensures { λ r. ⌜ r ≡ sealedRow (row (view (now (slip .entry)))) ⌝ }
 {
-    element.to_number() as u8
+    slip.seal::<Finish>().unwrap();
+    let mut sealed = [0; 12];
+    sealed.copy_from_slice(slip.symbols());
+    sealed
 }

@@ -1,0 +1,3 @@
+pub mod ColumnSteps
+pub mod ReadBack
+pub mod SideBySide

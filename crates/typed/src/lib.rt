@@ -1,0 +1,2 @@
+// A typed line, cut into its pieces.
+pub mod pieces;
