@@ -11,6 +11,6 @@ abbrev pub toldCause : Cause → Refusal
 toldCause (Line fault) = line.told fault
 toldCause (Code fault) = code.told fault
 
--- the cause keeps its number, and the sheet adds the line
+-- the cause keeps its number and its place; the fault has the line's number beside it
 abbrev pub told : SheetFault → Refusal
-told fault = record { number = toldCause (fault .cause) .number; layer = Sheet; place = fault .line }
+told fault = record { number = toldCause (fault .cause) .number; layer = Sheet; place = toldCause (fault .cause) .place }

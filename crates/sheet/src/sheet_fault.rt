@@ -45,7 +45,7 @@ pub impl From<CodeFault> for Cause as CauseFromCode {
     }
 }
 
-/// Why a sheet refuses one of its lines. The number is that of the cause, and the place is the line's number.
+/// Why a sheet refuses one of its lines: the cause, whole, and the line's number beside it.
 #[derive(Clone, Copy, PartialEq, Eq, Debug)]
 pub struct SheetFault {
     pub line: usize,
@@ -56,10 +56,11 @@ impl SheetFault {
     pub fn refusal(&self) -> Refusal
         ensures { λ r. ⌜ r ≡ told (now (self .entry)) ⌝ }
     {
+        let cause = self.cause.refusal();
         Refusal {
-            number: self.cause.refusal().number,
+            number: cause.number,
             layer: Layer::Sheet,
-            place: self.line,
+            place: cause.place,
         }
     }
 }
