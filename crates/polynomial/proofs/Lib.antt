@@ -1,13 +1,7 @@
-pub mod Equality
-pub mod Filled
 pub mod Degrees
-pub mod Values
 pub mod Doubling
-pub mod Places
-pub mod Terms
+pub mod Equality
 pub mod Products
 pub mod Searches
-pub mod Grown
-pub mod Inverses
-pub mod Steps
-pub mod Judged
+pub mod Terms
+pub mod Values

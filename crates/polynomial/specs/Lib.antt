@@ -1,4 +1,2 @@
-pub mod Faults
 pub mod Lists
 pub mod Roots
-pub mod Registers

@@ -4,7 +4,6 @@
 --   derivative F p   as many entries as the degree; entry i is (i + 1) times coefficient i + 1
 --   product F p q d  the product from power 0 to the degrees' sum plus 1, but at most to d - 1
 --   convolved F p s  entry j is the sum of p(f - i) × s(j + i) over i from 0 to f, the degree of p
---   pointwise F p q  the products entry by entry
 use mathlib.Core.List.{List, [], _∷_}
 use Prim.Native.Nat.{ℕ, zero, suc, _+_, _-_, min}
 use lib.ListN.{length}
@@ -37,7 +36,3 @@ module _ {A : Type 0} (F : FieldOn A) where
 
   abbrev pub convolved : List A → List A → List A
   convolved p s = some-terms (length s - degree p) (λ j. times F p (coeff F s) (degree p + j))
-
-  -- entry by entry; what lies past an end is ZERO
-  abbrev pub pointwise : List A → List A → List A
-  pointwise p q = tab (length p) (λ i. F .mul (coeff F p i) (coeff F q i))

@@ -12,8 +12,8 @@ use Rattle.std.specs.declared.result.Result.the-variants.{Ok, Err}
 use Rattle.algebra.specs.Field.{FieldOn, pow, HasOrder}
 use Rattle.algebra.specs.Poly.{eval}
 use Rattle.field.specs.declared.fault.FieldFault.the-variants.{Zero}
-use Rattle.polynomial.specs.declared.fault.ListFault.{ListFault}
-use Rattle.polynomial.specs.declared.fault.ListFault.the-variants.{Field}
+use Rattle.fieldvec.specs.declared.fault.ListFault.{ListFault}
+use Rattle.fieldvec.specs.declared.fault.ListFault.the-variants.{Field}
 use Rattle.polynomial.specs.declared.roots.Roots.{Roots}
 
 abbrev pub pick : {P : Type 0} → Dec P → ℕ → List ℕ → List ℕ

@@ -1,6 +1,3 @@
-// Coefficient lists over any field, lowest power first, in slices that the caller lends.
-pub mod fault;
-pub mod fieldvec;
-pub mod lfsr;
+// Polynomials as coefficient lists over any field, lowest power first, in slices that the caller lends.
 pub mod polynomial;
 pub mod roots;

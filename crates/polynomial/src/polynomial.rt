@@ -6,17 +6,17 @@ ghost use lib.ListN.{length, drop};
 ghost use Rattle.algebra.specs.Field.{multiple as times};
 ghost use Rattle.algebra.specs.Poly.{eval, tab, coeff};
 ghost use Rattle.algebra.specs.Series.{times as term-of};
-ghost use Rattle.polynomial.specs.Faults.{asked, count, written};
+ghost use Rattle.fieldvec.specs.Faults.{asked, count, written};
 ghost use Rattle.polynomial.specs.Lists as spec;
 ghost use Rattle.polynomial.specs.Roots.{left-over, coming, Seeks, Stepped};
 ghost use Rattle.std.specs.Finite.{nth as item};
-use crate::fault::ListFault;
-use crate::fault::ListFromField;
-use crate::fault::admit;
 use crate::roots::Roots;
 use field::field::ExtensionField;
 use field::field::Field;
 use field::powers::multiplicative_order;
+use fieldvec::fault::ListFault;
+use fieldvec::fault::ListFromField;
+use fieldvec::fault::admit;
 
 // The highest power whose coefficient is not ZERO, else 0.
 pub(crate) fn top_power<F: Field>(list: &[F]) -> usize
@@ -115,7 +115,7 @@ pub fn formal_derivative<F: Field>(list: &[F], out: &mut [F]) -> Result<usize, L
 }
 
 // Term n of the product of two lists.
-pub(crate) fn product_term<F: Field>(p: &[F], q: &[F], n: usize) -> F
+pub fn product_term<F: Field>(p: &[F], q: &[F], n: usize) -> F
     ensures { λ r. ⌜ r ≡ term-of field (now (p .entry)) (coeff field (now (q .entry))) n ⌝ }
 {
     let mut sum = F::zero();

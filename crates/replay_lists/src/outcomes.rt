@@ -1,6 +1,6 @@
 // Outcomes of the list functions, as recorded answers have them. A refusal is written by its number.
 use field::field::Field;
-use polynomial::fault::ListFault;
+use fieldvec::fault::ListFault;
 use replay::elements::write_element;
 use replay::elements::write_elements;
 use std::alloc::Global;

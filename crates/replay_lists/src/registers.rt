@@ -2,7 +2,7 @@
 use crate::lent::zeros;
 use crate::outcomes::write_front;
 use field::field::Field;
-use polynomial::lfsr::berlekamp_massey;
+use lfsr::lfsr::berlekamp_massey;
 use replay::elements::read_elements;
 use std::alloc::Global;
 use std::error::AnyError;

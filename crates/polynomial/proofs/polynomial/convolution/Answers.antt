@@ -6,7 +6,7 @@ use lib.ListN.{length, drop}
 use Rattle.algebra.specs.Poly.{tab, coeff}
 use Rattle.algebra.specs.Series.{times}
 use Rattle.polynomial.specs.Lists.{degree, convolved}
-use Rattle.polynomial.proofs.Filled.{refuses, refuses-list, accepts, accepts-list}
+use Rattle.fieldvec.proofs.Filled.{refuses, refuses-list, accepts, accepts-list}
 use Rattle.polynomial.proofs.Products.{length-some-terms, no-terms, terms, set-first}
 use Rattle.polynomial.proofs.polynomial.convolution.Needs as need
 

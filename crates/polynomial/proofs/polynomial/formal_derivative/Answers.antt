@@ -9,7 +9,7 @@ use Rattle.algebra.specs.Poly.{tab, coeff}
 use Rattle.algebra.proofs.Tab.{length-tab}
 use Rattle.polynomial.specs.Lists.{degree, derivative}
 use Rattle.polynomial.proofs.Degrees.{degree-below}
-use Rattle.polynomial.proofs.Filled.{filled-more, filled-all, refuses, refuses-list, accepts, accepts-list}
+use Rattle.fieldvec.proofs.Filled.{filled-more, filled-all, refuses, refuses-list, accepts, accepts-list}
 use Rattle.polynomial.proofs.polynomial.formal_derivative.Needs as need
 
 pub returns-in-Break-n : need.returns-in-Break-n

@@ -1,7 +1,7 @@
 use Prim.Native.Nat.{suc}
 use Rattle.algebra.specs.Field.{multiple}
 use Rattle.algebra.specs.Poly.{coeff}
-use Rattle.polynomial.proofs.Filled.{Filled}
+use Rattle.fieldvec.proofs.Filled.{Filled}
 use Rattle.polynomial.proofs.polynomial.formal_derivative.Given as given
 
 abbrev pub Inv-loop-i : given.InvT-loop-i

@@ -8,7 +8,7 @@ use Rattle.std.specs.declared.result.Result.the-variants.{Ok}
 use Rattle.algebra.specs.Poly.{coeff}
 use Rattle.polynomial.specs.Lists.{leading}
 use Rattle.polynomial.proofs.Degrees.{degree-below}
-use Rattle.polynomial.proofs.Filled.{asked-some}
+use Rattle.fieldvec.proofs.Filled.{asked-some}
 use Rattle.polynomial.proofs.polynomial.leading_term.Needs as need
 
 pub offset-list-top-power : need.offset-list-top-power

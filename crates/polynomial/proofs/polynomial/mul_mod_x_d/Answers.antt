@@ -7,7 +7,7 @@ use Rattle.algebra.specs.Poly.{tab, coeff}
 use Rattle.algebra.specs.Series.{times}
 use Rattle.algebra.proofs.Tab.{length-tab}
 use Rattle.polynomial.specs.Lists.{degree, product}
-use Rattle.polynomial.proofs.Filled.{refuses, refuses-list, accepts, accepts-list}
+use Rattle.fieldvec.proofs.Filled.{refuses, refuses-list, accepts, accepts-list}
 use Rattle.polynomial.proofs.Products.{tab-from-zero}
 use Rattle.polynomial.proofs.polynomial.mul_mod_x_d.Needs as need
 

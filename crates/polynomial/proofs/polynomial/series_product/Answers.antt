@@ -3,7 +3,7 @@ use Prim.Native.Nat.{ℕ, _+_}
 use native.Mathlib.Omega.{arith}
 use Rattle.algebra.specs.Poly.{tab, coeff}
 use Rattle.algebra.specs.Series.{times}
-use Rattle.polynomial.proofs.Filled.{filled-more, filled-all}
+use Rattle.fieldvec.proofs.Filled.{filled-more, filled-all}
 use Rattle.polynomial.proofs.polynomial.series_product.Needs as need
 
 pub loop-j-again : need.loop-j-again

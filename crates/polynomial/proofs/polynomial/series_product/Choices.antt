@@ -1,7 +1,7 @@
 use Prim.Native.Nat.{_+_}
 use Rattle.algebra.specs.Poly.{coeff}
 use Rattle.algebra.specs.Series.{times}
-use Rattle.polynomial.proofs.Filled.{Filled}
+use Rattle.fieldvec.proofs.Filled.{Filled}
 use Rattle.polynomial.proofs.polynomial.series_product.Given as given
 
 abbrev pub Inv-loop-j : given.InvT-loop-j

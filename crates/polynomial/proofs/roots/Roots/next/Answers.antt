@@ -8,7 +8,7 @@ use Rattle.std.specs.Finite.{nth}
 use Rattle.std.specs.declared.option.Option.the-variants.{Some}
 use Rattle.std.specs.declared.result.Result.the-variants.{Ok}
 use Rattle.polynomial.specs.Roots.{left-over, coming}
-use Rattle.polynomial.proofs.Filled.{asked-some}
+use Rattle.fieldvec.proofs.Filled.{asked-some}
 use Rattle.polynomial.proofs.Searches.{finds, stepped}
 use Rattle.polynomial.proofs.roots.Roots.next.Needs as need
 

@@ -1,0 +1,3 @@
+// Lists entry by entry, in slices that the caller lends, and why a list is refused.
+pub mod fault;
+pub mod fieldvec;

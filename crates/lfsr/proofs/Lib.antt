@@ -1,0 +1,4 @@
+pub mod Grown
+pub mod Inverses
+pub mod Judged
+pub mod Steps

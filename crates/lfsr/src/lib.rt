@@ -1,0 +1,2 @@
+// Linear feedback shift registers over any field.
+pub mod lfsr;
