@@ -22,18 +22,17 @@ pub struct Told {
     pub seconds: u32,
 }
 
-/// The output line: the five numbers in columns of 6, 4, 4, 8 and 8, and a newline. Of a number that is too wide for its
-/// column the low digits are written.
-pub fn output_line(told: &Told) -> [u8; 31]
-    ensures { λ r. ⌜ r ≡ outputLine (now (told .entry)) ⌝ }
+/// Writes the output line: the five numbers in columns of 6, 4, 4, 8 and 8, and a newline. Of a number that is too wide for
+/// its column the low digits are written.
+pub fn write_output_line(told: &Told, text: &mut [u8; 31])
+    ensures { λ _. ⌜ now (text .exit) ≡ outputLine (now (told .entry)) ⌝ }
 {
-    let mut text = [b'\n'; 31];
-    put_column(&mut text, 0, 6, told.line as u64);
-    put_column(&mut text, 6, 4, u64::from(told.refusal));
-    put_column(&mut text, 10, 4, told.changes as u64);
-    put_column(&mut text, 14, 8, u64::from(told.sail));
-    put_column(&mut text, 22, 8, u64::from(told.seconds));
-    text
+    text[30] = b'\n';
+    put_column(text, 0, 6, told.line as u64);
+    put_column(text, 6, 4, u64::from(told.refusal));
+    put_column(text, 10, 4, told.changes as u64);
+    put_column(text, 14, 8, u64::from(told.sail));
+    put_column(text, 22, 8, u64::from(told.seconds));
 }
 
 // Writes a number into a column of the line.
