@@ -1,6 +1,6 @@
 -- What is ahead of a cursor after a step, a skip or its start. Assumes nothing.
 use Rattle.std.proofs.Common.{◌≡◌, ℕ, zero, suc, ◌+◌, ◌-◌, ◌≤◌, List, [], ◌∷◌, drop, Some, None, Option, sym, refl, ap, ◌∙◌, ap₂, suc-add, zero-add, arith, drop-drop}
-use native.Mathlib.Nat.{sub_zero, zero-sub, suc-sub-suc}
+use native.Mathlib.Nat.{sub-zero, zero-sub, suc-sub-suc}
 use lib.Seq.{drop-nil}
 use Rattle.std.specs.List.{slice_get}
 use Rattle.std.specs.Option.{SomeIff}
@@ -16,7 +16,7 @@ tab_same zero f h e = refl
 tab_same (suc n) f h e = ap₂ ◌∷◌ (e 0) (tab_same n (λ k. f (suc k)) (λ k. h (suc k)) (λ k. e (suc k)))
 
 tab_drop : {A : Type 0} (m n : ℕ) (f : ℕ → A) → tab (m - n) (λ k. f (n + k)) ≡ drop n (tab m f)
-tab_drop m zero f = ap (λ j. tab j (λ k. f (0 + k))) (sub_zero m) ∙ tab_same m (λ k. f (0 + k)) f (λ k. ap f (zero-add k))
+tab_drop m zero f = ap (λ j. tab j (λ k. f (0 + k))) (sub-zero m) ∙ tab_same m (λ k. f (0 + k)) f (λ k. ap f (zero-add k))
 tab_drop zero (suc n) f = ap (λ j. tab j (λ k. f (suc n + k))) (zero-sub (suc n))
 tab_drop (suc m) (suc n) f =
     ap (λ j. tab j (λ k. f (suc n + k))) (suc-sub-suc m n) ∙ tab_same (m - n) (λ k. f (suc n + k)) (λ k. f (suc (n + k))) (λ k. ap f (suc-add n k))

@@ -8,21 +8,21 @@ use crate::field::Field;
 
 /// a - b.
 pub fn difference<F: Field>(a: F, b: F) -> F
-    ensures { result ≡ field.add a (field.neg b) }
+    ensures { result ≡ F.field.add a (F.field.neg b) }
 {
     a.add(b.neg())
 }
 
 /// a / b, refused if b is ZERO.
 pub fn quotient<F: Field>(a: F, b: F) -> Result<F, FieldFault>
-    ensures { result ≡ divided field a b }
+    ensures { result ≡ divided F.field a b }
 {
     Ok(a.mul(b.multiplicative_inverse()?))
 }
 
 /// n times x. Twice an element is ZERO, so that only n's last bit counts.
 pub fn muli<F: Field>(x: F, n: i64) -> F
-    ensures { result ≡ multipleℤ field x n }
+    ensures { result ≡ multipleℤ F.field x n }
 {
     if n % 2 == 0 { F::zero() } else { x }
 }

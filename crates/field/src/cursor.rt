@@ -16,8 +16,8 @@ pub struct Powers<F> {
 impl<F: Field> Powers<F> {
     /// The next power.
     pub fn next(&mut self) -> F
-        ensures answer { result ≡ ahead field self.old 0 }
-        ensures rest { (k : ℕ) → ahead field self.new k ≡ ahead field self.old (suc k) }
+        ensures answer { result ≡ ahead F.field self.old 0 }
+        ensures rest { (k : ℕ) → ahead F.field self.new k ≡ ahead F.field self.old (suc k) }
     {
         let power = self.next;
         self.next = power.mul(self.base);
@@ -26,15 +26,15 @@ impl<F: Field> Powers<F> {
 
     // Skips n powers.
     fn skip(&mut self, n: usize)
-        ensures { (k : ℕ) → ahead field self.new k ≡ ahead field self.old (n + k) }
+        ensures { (k : ℕ) → ahead F.field self.new k ≡ ahead F.field self.old (n + k) }
     {
         self.next = self.next.mul(by_squaring(self.base, n));
     }
 
     /// The power after n others, which are skipped.
     pub fn nth(&mut self, n: usize) -> F
-        ensures answer { result ≡ ahead field self.old n }
-        ensures rest { (k : ℕ) → ahead field self.new k ≡ ahead field self.old (n + suc k) }
+        ensures answer { result ≡ ahead F.field self.old n }
+        ensures rest { (k : ℕ) → ahead F.field self.new k ≡ ahead F.field self.old (n + suc k) }
     {
         self.skip(n);
         self.next()
@@ -52,8 +52,8 @@ pub struct PowersRange<F> {
 impl<F: Field> PowersRange<F> {
     /// The next power, none past the last.
     pub fn next(&mut self) -> Option<F>
-        ensures answer { result ≡ item (coming field self.old) 0 }
-        ensures rest { coming field self.new ≡ drop 1 (coming field self.old) }
+        ensures answer { result ≡ item (coming F.field self.old) 0 }
+        ensures rest { coming F.field self.new ≡ drop 1 (coming F.field self.old) }
     {
         let after = self.after?;
         self.after = after.checked_sub(1);
@@ -62,8 +62,8 @@ impl<F: Field> PowersRange<F> {
 
     /// The power after n others, which are skipped; none past the last.
     pub fn nth(&mut self, n: usize) -> Option<F>
-        ensures answer { result ≡ item (coming field self.old) n }
-        ensures rest { coming field self.new ≡ drop (n + 1) (coming field self.old) }
+        ensures answer { result ≡ item (coming F.field self.old) n }
+        ensures rest { coming F.field self.new ≡ drop (n + 1) (coming F.field self.old) }
     {
         self.after = self.after?.checked_sub(n);
         self.powers.skip(n);

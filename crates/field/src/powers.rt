@@ -11,7 +11,7 @@ use crate::field::Field;
 
 // x to the power n, by squaring.
 pub(crate) fn by_squaring<F: Field>(x: F, n: usize) -> F
-    ensures { result ≡ pow field x n }
+    ensures { result ≡ pow F.field x n }
 {
     let mut result = F::one();
     let mut base = x;
@@ -28,14 +28,14 @@ pub(crate) fn by_squaring<F: Field>(x: F, n: usize) -> F
 
 // The inverse's power, refused for ZERO.
 fn inverse_power<F: Field>(x: F, n: usize) -> Result<F, FieldFault>
-    ensures { result ≡ inverse_power field x n }
+    ensures { result ≡ inverse_power F.field x n }
 {
     Ok(by_squaring(x.multiplicative_inverse()?, n))
 }
 
 /// x to the power n: ONE for the exponent 0, and the inverse's power for a negative one.
 pub fn powi<F: Field>(x: F, n: i64) -> Result<F, FieldFault>
-    ensures { result ≡ power field x n }
+    ensures { result ≡ power F.field x n }
 {
     if n == i64::MIN {
         Err(FieldFault::Exponent)
@@ -48,7 +48,7 @@ pub fn powi<F: Field>(x: F, n: i64) -> Result<F, FieldFault>
 
 /// The least positive exponent at which x's power is ONE: the first such divisor of the field's order. ZERO has none.
 pub fn multiplicative_order<F: Field>(x: F) -> Result<usize, FieldFault>
-    ensures { Ordered field x result }
+    ensures { Ordered F.field x result }
 {
     if x == F::zero() {
         return Err(FieldFault::Zero);
@@ -67,7 +67,7 @@ pub fn multiplicative_order<F: Field>(x: F) -> Result<usize, FieldFault>
 
 /// The powers of x, from ONE on.
 pub fn powers<F: Field>(x: F) -> Powers<F>
-    ensures { (k : ℕ) → ahead field result k ≡ pow field x k }
+    ensures { (k : ℕ) → ahead F.field result k ≡ pow F.field x k }
 {
     Powers {
         base: x,
@@ -77,7 +77,7 @@ pub fn powers<F: Field>(x: F) -> Powers<F>
 
 /// The powers of x from the first exponent to the last; none if the first is above the last.
 pub fn powers_range<F: Field>(x: F, first: usize, last: usize) -> PowersRange<F>
-    ensures { coming field result ≡ tab (last + 1 - first) (λ k. pow field x (first + k)) }
+    ensures { coming F.field result ≡ tab (last + 1 - first) (λ k. pow F.field x (first + k)) }
 {
     PowersRange {
         powers: Powers {

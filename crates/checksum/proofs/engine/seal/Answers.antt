@@ -5,8 +5,8 @@ use Rattle.checksum.specs.Engine.{padded}
 use Rattle.checksum.proofs.Sizes.{engine_fits, sixteen_fit}
 use Rattle.checksum.proofs.engine.seal.Goals as goal
 
-pub of-row-requires : goal.of-row-requires
-of-row-requires g c = search (rules, engine_fits)
+pub of-row-requires : goal.of_row-requires
+of_row-requires g c = search (rules, engine_fits)
 
 pub closing-requires : goal.closing-requires
 closing-requires g c = search (rules, engine_fits, sixteen_fit)
@@ -16,6 +16,6 @@ returns g c =
     let F = g.C.SymbolField.Field.field in
     let code = g.C.Checksum.code in
     record {
-      checks = c.closing.ensures ∙ ap (λ r. padded F (closing F code r)) c.of-row.ensures.residue;
+      checks = c.closing.ensures ∙ ap (λ r. padded F (closing F code r)) c.of_row.ensures.residue;
       seals = seals F code c.laws.ensures.lawful.target_length c.args.row.now;
     }

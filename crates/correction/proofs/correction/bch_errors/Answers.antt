@@ -13,8 +13,8 @@ use Rattle.correction.specs.Decoded.{Tells}
 use Rattle.correction.proofs.Nearby.{proposes}
 use Rattle.correction.proofs.correction.bch_errors.Goals as goal
 
-pub in-parts-proposal-requires : goal.in-parts-proposal-requires
-in-parts-proposal-requires g c =
+pub in_parts-proposal-requires : goal.in_parts-proposal-requires
+in_parts-proposal-requires g c =
     let lawful = c.laws.ensures.lawful in
     let slip = c.args.slip.now in
     let exponents = lawful.exponents in
@@ -23,9 +23,9 @@ in-parts-proposal-requires g c =
     let is_bound = c.bound-bound.ensures in
     let held : length c.marks.result.now ≡ length (view slip) = ap length c.marks.ensures ∙ length-map (view slip) (λ a. a.doubted) in
     let places = length_view slip in
-    let first : c.root-exponents-first.result.0 ≡ g.C.Checksum.code.first = ap (λ (r : ℕ × ℕ). r.0) c.root-exponents-first.ensures in
+    let first : c.root_exponents-first.result.0 ≡ g.C.Checksum.code.first = ap (λ (r : ℕ × ℕ). r.0) c.root_exponents-first.ensures in
     record {
-      given = (c.doubts.ensures ∙ ap count (sym c.marks.ensures), (omega arith, (omega arith, λ z. lawful.root_ne_zero (sym c.root-generator.ensures ∙ z))));
+      given = (c.doubts.ensures ∙ ap count (sym c.marks.ensures), (omega arith, (omega arith, λ z. lawful.root_ne_zero (sym c.root_generator.ensures ∙ z))));
       small = (omega arith, (omega (arith, slip.room), c.laws.ensures.alphabet));
       room = omega arith;
     }
@@ -40,16 +40,16 @@ returns g c =
     let slip = c.args.slip.now in
     let list = c.syndromes.new.out in
     let ms = c.marks.result.now in
-    let r = c.in-parts-proposal.result in
+    let r = c.in_parts-proposal.result in
     let S = tab (bound C) (syndrome s e up C (elements N (row (view slip)))) in
-    let is-list : list ≡ S = c.syndromes.ensures ∙ ap (λ t. S ++ t) (drop_all (bound C) c.split-at-mut-s.result.0.now (omega (arith, c.bound-bound.ensures))) ∙ append-nil S in
-    let first : c.root-exponents-first.result.0 ≡ C.first = ap (λ (p : ℕ × ℕ). p.0) c.root-exponents-first.ensures in
+    let is-list : list ≡ S = c.syndromes.ensures ∙ ap (λ t. S ++ t) (drop_all (bound C) c.split_at_mut-s.result.0.now (omega (arith, c.bound-bound.ensures))) ∙ append-nil S in
+    let first : c.root_exponents-first.result.0 ≡ C.first = ap (λ (p : ℕ × ℕ). p.0) c.root_exponents-first.ensures in
     let tells : Tells e up N list ms C.root C.first r =
-    subst (λ k. Tells e up N list ms C.root k r) first (subst (λ a. Tells e up N list ms a c.root-exponents-first.result.0 r) c.root-generator.ensures c.in-parts-proposal.ensures) in
+    subst (λ k. Tells e up N list ms C.root k r) first (subst (λ a. Tells e up N list ms a c.root_exponents-first.result.0 r) c.root_generator.ensures c.in_parts-proposal.ensures) in
     let enough : 12 * (bound C + 2) ≤ length c.args.work.now = omega (arith, c.bound-bound.ensures) in
     record {
       proposes = λ n short long near.
-          proposes N s e up c.lift-laws.ensures C c.laws.ensures.lawful g.CorrectionField.Field.numbers g.CorrectionField.Field.units g.met.CorrectionField.Field.cyclic
+          proposes N s e up c.lift_laws.ensures C c.laws.ensures.lawful g.CorrectionField.Field.numbers g.CorrectionField.Field.units g.met.CorrectionField.Field.cyclic
           (view slip) (row_below N.size c.laws.ensures.alphabet slip) list ms is-list c.marks.ensures n short near r tells;
       after = simp (le-ltb (length c.args.work.now) (12 * (bound C + 2)) enough) (search rules);
     }

@@ -4,14 +4,14 @@ use Rattle.algebra.proofs.Orders.{pow_ne_zero}
 use Rattle.correction.proofs.Values.{same_some}
 use Rattle.correction.proofs.forney.change_at.Goals as goal
 
-pub error-value-requires : goal.error-value-requires
-error-value-requires g c =
+pub error-value-requires : goal.error_value-requires
+error_value-requires g c =
     let F = g.E.Field.field in
-    let is : c.in-ok-power.field-0 ≡ pow F c.args.a c.args.position = same_some c.power.result c.in-ok-power.was c.power.ensures in
+    let is : c.in_ok-power.field-0 ≡ pow F c.args.a c.args.position = same_some c.power.result c.in_ok-power.was c.power.ensures in
     (λ z. pow_ne_zero F c.args.a c.requires.0 c.args.position (sym is ∙ z), (c.requires.1.0, c.requires.1.1.1.0))
 
 pub overflow-cast-result : goal.overflow-cast-result
 overflow-cast-result g c =
-    let below = g.BaseField.Field.numbers.below c.in-ok-symbol.symbol in
-    let small : c.to-number.result < 256 = omega (arith, c.to-number.ensures, c.requires.1.1.1.1) in
+    let below = g.BaseField.Field.numbers.below c.in_ok-symbol.symbol in
+    let small : c.to_number.result < 256 = omega (arith, c.to_number.ensures, c.requires.1.1.1.1) in
     search rules

@@ -5,13 +5,13 @@ use Rattle.correction.specs.Forney.{Valued}
 use Rattle.book.specs.Patterns.{held}
 use Rattle.correction.proofs.Onward.{Onward, onward_all, onward_same, passed_over, taken_up, never_refused}
 use Rattle.correction.proofs.listing.list_erasures.Goals as goal
-use Rattle.correction.proofs.listing.list_erasures.Goals.{then-marks-place+in-ok-list-place, else-marks-place}
+use Rattle.correction.proofs.listing.list_erasures.Goals.{then-marks-place+in-ok-list_place, else-marks-place}
 
-pub returns-in-err-list-place : goal.returns-in-err-list-place
-returns-in-err-list-place g c =
+pub returns-in_err-list_place : goal.returns-in_err-list_place
+returns-in_err-list_place g c =
     let Change = Valued g.E.Field.field g.E.ExtensionField.lifted g.BaseField.Field.numbers c.args.evaluator.now c.args.derivative.now c.args.a c.args.first in
     never_refused c.args.marks.now c.loop-place.place c.loop-place-test.true Change (held c.args.pattern.now) (held c.loop-place.pattern) c.loop-place.invariant
-    c.if-marks-place.true (held c.list-place.new.pattern) c.list-place.result c.list-place.ensures c.in-err-list-place.was (held c.list-place.new.pattern) c.from-residual.result
+    c.if-marks-place.true (held c.list_place.new.pattern) c.list_place.result c.list_place.ensures c.in_err-list_place.was (held c.list_place.new.pattern) c.from-residual.result
 
 pub loop-place-preserved : goal.loop-place-preserved
 loop-place-preserved g c =
@@ -22,10 +22,10 @@ loop-place-preserved g c =
     let hs = held c.loop-place.pattern in
     let left = positions (drop (i + 1) ms) in
     elim c.if-marks-place.branch [
-      | then-marks-place+in-ok-list-place w ↦
-          let next = w.list-place.new.pattern in
+      | then-marks-place+in-ok-list_place w ↦
+          let next = w.list_place.new.pattern in
           onward_same Change (length ms) (positions ms) before left next c.if-marks-place.pattern w.pattern-is
-          (taken_up ms i c.loop-place-test.true Change before hs c.loop-place.invariant w.if-marks-place.true (held next) w.list-place.result w.list-place.ensures)
+          (taken_up ms i c.loop-place-test.true Change before hs c.loop-place.invariant w.if-marks-place.true (held next) w.list_place.result w.list_place.ensures)
       | else-marks-place w ↦
           onward_same Change (length ms) (positions ms) before left c.loop-place.pattern c.if-marks-place.pattern w.pattern-is
           (passed_over ms i c.loop-place-test.true Change before hs c.loop-place.invariant w.if-marks-place.false)

@@ -11,8 +11,8 @@ pub loop-place-init : goal.loop-place-init
 loop-place-init g c =
     doubted_none g.F.Field.field c.args.a c.args.marks.now c.args.list.now c.one.result c.one-power.result (omega arith) c.one.ensures c.one-power.ensures
 
-pub times-linear-requires : goal.times-linear-requires
-times-linear-requires g c =
+pub times-linear-requires : goal.times_linear-requires
+times_linear-requires g c =
     let l = c.loop-place in
     let room = doubted_room g.F.Field.field c.args.a c.args.marks.now l.place l.len l.power (set c.args.list.now 0 c.one.result) l.list l.invariant c.loop-place-test.true c.if-marks-place.true in
     omega (arith, length-set c.args.list.now 0 c.one.result)
@@ -34,7 +34,7 @@ loop-place-preserved g c =
     elim c.if-marks-place.branch [
       | then-marks-place w ↦
           doubted_same F a marks (l.place - 1) _ _ power e _ _ w.len-is w.list-is
-          (doubted_more F a marks l.place l.len l.power e l.list l.invariant c.loop-place-test.true power w.times-linear.new.list w.if-marks-place.true c.mul-power.ensures w.times-linear.ensures)
+          (doubted_more F a marks l.place l.len l.power e l.list l.invariant c.loop-place-test.true power w.times_linear.new.list w.if-marks-place.true c.mul-power.ensures w.times_linear.ensures)
       | else-marks-place w ↦
           doubted_same F a marks (l.place - 1) _ _ power e _ _ w.len-is w.list-is
           (doubted_past F a marks l.place l.len l.power e l.list l.invariant c.loop-place-test.true power w.if-marks-place.false c.mul-power.ensures)

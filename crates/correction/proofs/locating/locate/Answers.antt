@@ -13,7 +13,7 @@ accepted-both-requires g c =
     let MAX : ℕ = 18446744073709551615 in
     let gamma = take c.locators-erasures.result.0 c.locators-erasures.new.gamma in
     let conn = take c.locators-erasures.result.1 c.locators-erasures.new.conn in
-    let both = multiplies F s marks a given MAX (omega arith) conn gamma c.args.errata.now c.mul-mod-x-d.result c.mul-mod-x-d.new.out c.locators-erasures.ensures.errors c.locators-erasures.ensures.erasures (omega arith) c.mul-mod-x-d.ensures.answer c.mul-mod-x-d.ensures.answered in
+    let both = multiplies F s marks a given MAX (omega arith) conn gamma c.args.errata.now c.mul_mod_x_d.result c.mul_mod_x_d.new.out c.locators-erasures.ensures.errors c.locators-erasures.ensures.erasures (omega arith) c.mul_mod_x_d.ensures.answer c.mul_mod_x_d.ensures.answered in
     (_, both.answer)
 
 pub accepted-values-requires : goal.accepted-values-requires
@@ -26,10 +26,10 @@ accepted-values-requires g c =
     let MAX : ℕ = 18446744073709551615 in
     let gamma = take c.locators-erasures.result.0 c.locators-erasures.new.gamma in
     let conn = take c.locators-erasures.result.1 c.locators-erasures.new.conn in
-    let both = multiplies F s marks a given MAX (omega arith) conn gamma c.args.errata.now c.mul-mod-x-d.result c.mul-mod-x-d.new.out c.locators-erasures.ensures.errors c.locators-erasures.ensures.erasures (omega arith) c.mul-mod-x-d.ensures.answer c.mul-mod-x-d.ensures.answered in
-    let errata = take c.accepted-both.result c.mul-mod-x-d.new.out in
+    let both = multiplies F s marks a given MAX (omega arith) conn gamma c.args.errata.now c.mul_mod_x_d.result c.mul_mod_x_d.new.out c.locators-erasures.ensures.errors c.locators-erasures.ensures.erasures (omega arith) c.mul_mod_x_d.ensures.answer c.mul_mod_x_d.ensures.answered in
+    let errata = take c.accepted-both.result c.mul_mod_x_d.new.out in
     let is-errata = both.front c.accepted-both.result c.accepted-both.ensures in
-    let values = evaluates F s marks a given MAX (omega arith) errata c.args.evaluator.now c.mul-mod-x-d-2.result c.mul-mod-x-d-2.new.out is-errata (omega arith) c.mul-mod-x-d-2.ensures.answer c.mul-mod-x-d-2.ensures.answered in
+    let values = evaluates F s marks a given MAX (omega arith) errata c.args.evaluator.now c.mul_mod_x_d-2.result c.mul_mod_x_d-2.new.out is-errata (omega arith) c.mul_mod_x_d-2.ensures.answer c.mul_mod_x_d-2.ensures.answered in
     (_, values.answer)
 
 pub accepted-slopes-requires : goal.accepted-slopes-requires
@@ -42,10 +42,10 @@ accepted-slopes-requires g c =
     let MAX : ℕ = 18446744073709551615 in
     let gamma = take c.locators-erasures.result.0 c.locators-erasures.new.gamma in
     let conn = take c.locators-erasures.result.1 c.locators-erasures.new.conn in
-    let both = multiplies F s marks a given MAX (omega arith) conn gamma c.args.errata.now c.mul-mod-x-d.result c.mul-mod-x-d.new.out c.locators-erasures.ensures.errors c.locators-erasures.ensures.erasures (omega arith) c.mul-mod-x-d.ensures.answer c.mul-mod-x-d.ensures.answered in
-    let errata = take c.accepted-both.result c.mul-mod-x-d.new.out in
+    let both = multiplies F s marks a given MAX (omega arith) conn gamma c.args.errata.now c.mul_mod_x_d.result c.mul_mod_x_d.new.out c.locators-erasures.ensures.errors c.locators-erasures.ensures.erasures (omega arith) c.mul_mod_x_d.ensures.answer c.mul_mod_x_d.ensures.answered in
+    let errata = take c.accepted-both.result c.mul_mod_x_d.new.out in
     let is-errata = both.front c.accepted-both.result c.accepted-both.ensures in
-    let slopes = derives F s marks a given MAX (omega arith) errata c.args.derivative.now c.formal-derivative.result c.formal-derivative.new.out is-errata (omega arith) c.formal-derivative.ensures.answer c.formal-derivative.ensures.answered in
+    let slopes = derives F s marks a given MAX (omega arith) errata c.args.derivative.now c.formal_derivative.result c.formal_derivative.new.out is-errata (omega arith) c.formal_derivative.ensures.answer c.formal_derivative.ensures.answered in
     (_, slopes.answer)
 
 pub returns : goal.returns
@@ -58,11 +58,11 @@ returns g c =
     let MAX : ℕ = 18446744073709551615 in
     let gamma = take c.locators-erasures.result.0 c.locators-erasures.new.gamma in
     let conn = take c.locators-erasures.result.1 c.locators-erasures.new.conn in
-    let both = multiplies F s marks a given MAX (omega arith) conn gamma c.args.errata.now c.mul-mod-x-d.result c.mul-mod-x-d.new.out c.locators-erasures.ensures.errors c.locators-erasures.ensures.erasures (omega arith) c.mul-mod-x-d.ensures.answer c.mul-mod-x-d.ensures.answered in
-    let errata = take c.accepted-both.result c.mul-mod-x-d.new.out in
+    let both = multiplies F s marks a given MAX (omega arith) conn gamma c.args.errata.now c.mul_mod_x_d.result c.mul_mod_x_d.new.out c.locators-erasures.ensures.errors c.locators-erasures.ensures.erasures (omega arith) c.mul_mod_x_d.ensures.answer c.mul_mod_x_d.ensures.answered in
+    let errata = take c.accepted-both.result c.mul_mod_x_d.new.out in
     let is-errata = both.front c.accepted-both.result c.accepted-both.ensures in
-    let values = evaluates F s marks a given MAX (omega arith) errata c.args.evaluator.now c.mul-mod-x-d-2.result c.mul-mod-x-d-2.new.out is-errata (omega arith) c.mul-mod-x-d-2.ensures.answer c.mul-mod-x-d-2.ensures.answered in
-    let slopes = derives F s marks a given MAX (omega arith) errata c.args.derivative.now c.formal-derivative.result c.formal-derivative.new.out is-errata (omega arith) c.formal-derivative.ensures.answer c.formal-derivative.ensures.answered in
+    let values = evaluates F s marks a given MAX (omega arith) errata c.args.evaluator.now c.mul_mod_x_d-2.result c.mul_mod_x_d-2.new.out is-errata (omega arith) c.mul_mod_x_d-2.ensures.answer c.mul_mod_x_d-2.ensures.answered in
+    let slopes = derives F s marks a given MAX (omega arith) errata c.args.derivative.now c.formal_derivative.result c.formal_derivative.new.out is-errata (omega arith) c.formal_derivative.ensures.answer c.formal_derivative.ensures.answered in
     let k = c.accepted-values.result in
     let is-k = c.accepted-values.ensures in
     let m = c.accepted-slopes.result in

@@ -9,9 +9,9 @@ accepted-terms-requires g c =
     let marks = c.args.marks.now in
     let a = c.args.a in
     let given = c.requires.given in
-    let n = c.erasure-locator-erasures.result in
-    let gamma = c.erasure-locator-erasures.new.list in
-    let is-gamma = erased F s marks a given n _ gamma c.erasure-locator-erasures.ensures.size c.erasure-locator-erasures.ensures.list in
+    let n = c.erasure_locator-erasures.result in
+    let gamma = c.erasure_locator-erasures.new.list in
+    let is-gamma = erased F s marks a given n _ gamma c.erasure_locator-erasures.ensures.size c.erasure_locator-erasures.ensures.list in
     let terms = folds F s marks a given (take n gamma) c.args.folded.now c.convolution.result c.convolution.new.out is-gamma (omega arith) c.convolution.ensures.answer c.convolution.ensures.answered in
     (_, terms.answer)
 
@@ -22,13 +22,13 @@ accepted-errors-requires g c =
     let marks = c.args.marks.now in
     let a = c.args.a in
     let given = c.requires.given in
-    let n = c.erasure-locator-erasures.result in
-    let gamma = c.erasure-locator-erasures.new.list in
-    let is-gamma = erased F s marks a given n _ gamma c.erasure-locator-erasures.ensures.size c.erasure-locator-erasures.ensures.list in
+    let n = c.erasure_locator-erasures.result in
+    let gamma = c.erasure_locator-erasures.new.list in
+    let is-gamma = erased F s marks a given n _ gamma c.erasure_locator-erasures.ensures.size c.erasure_locator-erasures.ensures.list in
     let terms = folds F s marks a given (take n gamma) c.args.folded.now c.convolution.result c.convolution.new.out is-gamma (omega arith) c.convolution.ensures.answer c.convolution.ensures.answered in
     let m = c.accepted-terms.result in
     let folded = c.convolution.new.out in
-    let errors = connects F s marks a given (take m folded) c.args.conn.now c.args.second.now c.berlekamp-massey.result c.berlekamp-massey.new.answer (terms.front m c.accepted-terms.ensures) (omega arith) (omega arith) c.berlekamp-massey.ensures.number c.berlekamp-massey.ensures.list in
+    let errors = connects F s marks a given (take m folded) c.args.conn.now c.args.second.now c.berlekamp_massey.result c.berlekamp_massey.new.answer (terms.front m c.accepted-terms.ensures) (omega arith) (omega arith) c.berlekamp_massey.ensures.number c.berlekamp_massey.ensures.list in
     (_, errors.answer)
 
 pub returns : goal.returns
@@ -38,18 +38,18 @@ returns g c =
     let marks = c.args.marks.now in
     let a = c.args.a in
     let given = c.requires.given in
-    let n = c.erasure-locator-erasures.result in
-    let gamma = c.erasure-locator-erasures.new.list in
-    let is-gamma = erased F s marks a given n _ gamma c.erasure-locator-erasures.ensures.size c.erasure-locator-erasures.ensures.list in
+    let n = c.erasure_locator-erasures.result in
+    let gamma = c.erasure_locator-erasures.new.list in
+    let is-gamma = erased F s marks a given n _ gamma c.erasure_locator-erasures.ensures.size c.erasure_locator-erasures.ensures.list in
     let terms = folds F s marks a given (take n gamma) c.args.folded.now c.convolution.result c.convolution.new.out is-gamma (omega arith) c.convolution.ensures.answer c.convolution.ensures.answered in
     let m = c.accepted-terms.result in
     let folded = c.convolution.new.out in
-    let errors = connects F s marks a given (take m folded) c.args.conn.now c.args.second.now c.berlekamp-massey.result c.berlekamp-massey.new.answer (terms.front m c.accepted-terms.ensures) (omega arith) (omega arith) c.berlekamp-massey.ensures.number c.berlekamp-massey.ensures.list in
+    let errors = connects F s marks a given (take m folded) c.args.conn.now c.args.second.now c.berlekamp_massey.result c.berlekamp_massey.new.answer (terms.front m c.accepted-terms.ensures) (omega arith) (omega arith) c.berlekamp_massey.ensures.number c.berlekamp_massey.ensures.list in
     let k = c.accepted-errors.result in
     let is = c.accepted-errors.ensures in
     let size = errors.size k is in
     record {
       erasures = is-gamma;
       errors = errors.front k is;
-      sizes = (omega (arith, c.erasure-locator-erasures.ensures.size), (errors.inside k is, omega (arith, some_errors F s marks a given)));
+      sizes = (omega (arith, c.erasure_locator-erasures.ensures.size), (errors.inside k is, omega (arith, some_errors F s marks a given)));
     }

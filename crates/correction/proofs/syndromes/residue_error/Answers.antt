@@ -28,10 +28,10 @@ loop-power-preserved g c =
     let as-target = lawful.target_length in
     let r = c.residue-residue.result.now in
     let i = c.loop-power.power in
-    let is-k = c.checksum-length-power-end.ensures in
+    let is-k = c.checksum_length-power-end.ensures in
     let long : length r ≡ checks code = ap length (c.residue-residue.ensures ∙ c.engine-engine.ensures) ∙ length_residue F code (elements g.SymbolField.Field.numbers (row (view c.args.slip.now))) in
-    error_more F r code.target (omega arith) (omega arith) i c.loop-power.error c.index-residue-power.result c.target-residue.result c.difference.result (omega arith)
-    c.loop-power.invariant c.index-residue-power.is c.target-residue.ensures c.difference.ensures
+    error_more F r code.target (omega arith) (omega arith) i c.loop-power.error c.index-residue-power.result c.target_residue.result c.difference.result (omega arith)
+    c.loop-power.invariant c.index-residue-power.is c.target_residue.ensures c.difference.ensures
 
 pub returns : goal.returns
 returns g c =
@@ -41,7 +41,7 @@ returns g c =
     let few = lawful.few_checks in
     let as-target = lawful.target_length in
     let r = c.residue-residue.result.now in
-    let is-k = c.checksum-length-power-end.ensures in
+    let is-k = c.checksum_length-power-end.ensures in
     let is-r = c.residue-residue.ensures ∙ c.engine-engine.ensures in
     let long : length r ≡ checks code = ap length is-r ∙ length_residue F code (elements g.SymbolField.Field.numbers (row (view c.args.slip.now))) in
     error_all F r code.target (omega arith) (omega arith) c.loop-power.power c.loop-power.error (omega arith) c.loop-power.invariant

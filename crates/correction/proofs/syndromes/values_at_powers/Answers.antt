@@ -22,8 +22,8 @@ loop-j-preserved g c =
     let j = c.loop-j.j in
     let list = map g.E.ExtensionField.lifted c.args.list.now in
     let next : suc (first + j) ≡ first + (j + 1) = omega arith in (
-      filled_more (λ j. eval F list (pow F a (first + j))) c.args.out.now j c.loop-j.out c.loop-j.invariant.0 c.value-at.result (omega arith)
-          (c.value-at.ensures ∙ ap (eval F list) c.loop-j.invariant.1),
+      filled_more (λ j. eval F list (pow F a (first + j))) c.args.out.now j c.loop-j.out c.loop-j.invariant.0 c.value_at.result (omega arith)
+          (c.value_at.ensures ∙ ap (eval F list) c.loop-j.invariant.1),
       c.mul-power.ensures ∙ ap (F.mul a) c.loop-j.invariant.1 ∙ ap (pow F a) next,
     )
 

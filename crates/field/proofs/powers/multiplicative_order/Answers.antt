@@ -10,14 +10,14 @@ loop-divisors-init g c =
     let x = c.args.x in
     let nonzero = unequal (g.met.F.Field.equality x c.zero.result _ c.if-eq.ensures) refl c.zero.ensures in
     let finds = finds_order F x g.F.Field.numbers g.F.Field.units g.met.F.Field.cyclic nonzero in
-    begins F x c.order-factors-divisors.result.now (subst⁻¹ (Finds F x) c.order-factors-divisors.ensures finds)
+    begins F x c.order_factors-divisors.result.now (subst⁻¹ (Finds F x) c.order_factors-divisors.ensures finds)
 
 pub loop-divisors-preserved : goal.loop-divisors-preserved
 loop-divisors-preserved g c =
-    goes_on g.F.Field.field c.args.x c.order-factors-divisors.result.now c.loop-divisors.i c.loop-divisors.invariant
-    (unequal (g.met.F.Field.equality c.by-squaring.result c.one.result _ c.if-eq-2.ensures) c.by-squaring.ensures c.one.ensures)
+    goes_on g.F.Field.field c.args.x c.order_factors-divisors.result.now c.loop-divisors.i c.loop-divisors.invariant
+    (unequal (g.met.F.Field.equality c.by_squaring.result c.one.result _ c.if-eq-2.ensures) c.by_squaring.ensures c.one.ensures)
 
 pub returns : goal.returns
 returns g c =
-    ends g.F.Field.field c.args.x c.order-factors-divisors.result.now c.loop-divisors.i c.loop-divisors.invariant
-    (equal (g.met.F.Field.equality c.by-squaring.result c.one.result _ c.if-eq-2.ensures) c.by-squaring.ensures c.one.ensures)
+    ends g.F.Field.field c.args.x c.order_factors-divisors.result.now c.loop-divisors.i c.loop-divisors.invariant
+    (equal (g.met.F.Field.equality c.by_squaring.result c.one.result _ c.if-eq-2.ensures) c.by_squaring.ensures c.one.ensures)

@@ -7,16 +7,16 @@ use Rattle.fieldvec.proofs.Filled.{filled_read}
 use Rattle.fieldvec.proofs.Filled.{filled_more, filled_all, refuses, refuses_list, accepts, accepts_list}
 use Rattle.fieldvec.proofs.fieldvec.mul_assign_pointwise.Goals as goal
 
-pub returns-in-err-n : goal.returns-in-err-n
-returns-in-err-n g c =
+pub returns-in_err-n : goal.returns-in_err-n
+returns-in_err-n g c =
     let F = g.F.Field.field in
     let p = c.args.list.now in
     let q = c.args.other.now in
     let old = c.args.list.now in
     let size : length p ≡ length (pointwise F p q) = sym (length_tab (length p) (λ i. F.mul (coeff F p i) (coeff F q i))) in
     record {
-      answer = refuses (min (length p) (length q)) (pointwise F p q) old c.admit.result c.min.result (length p) c.admit.ensures.answer c.min.ensures size c.in-err-n.field-0.0 c.in-err-n.was c.from-residual.result c.from-residual.ensures.1;
-      answered = refuses_list (min (length p) (length q)) (pointwise F p q) old c.admit.result c.min.result (length p) c.admit.ensures.answer c.min.ensures size c.in-err-n.field-0.0 c.in-err-n.was;
+      answer = refuses (min (length p) (length q)) (pointwise F p q) old c.admit.result c.min.result (length p) c.admit.ensures.answer c.min.ensures size c.in_err-n.field-0.0 c.in_err-n.was c.from-residual.result c.from-residual.ensures.1;
+      answered = refuses_list (min (length p) (length q)) (pointwise F p q) old c.admit.result c.min.result (length p) c.admit.ensures.answer c.min.ensures size c.in_err-n.field-0.0 c.in_err-n.was;
     }
 
 pub loop-i-preserved : goal.loop-i-preserved
@@ -25,7 +25,7 @@ loop-i-preserved g c =
     let p = c.args.list.now in
     let q = c.args.other.now in
     let i = c.loop-i.i in
-    let holds = c.in-ok-n.ensures.holds in
+    let holds = c.in_ok-n.ensures.holds in
     let y = c.index-list-i.result in
     let inside : i < length p = omega arith in
     let read : y ≡ coeff F p i = c.index-list-i.is ∙ filled_read (λ i. F.mul (coeff F p i) (coeff F q i)) p i c.loop-i.list c.loop-i.invariant i y (omega arith) ∙ get_or_default p i y F.𝟘 inside in
@@ -38,13 +38,13 @@ returns g c =
     let p = c.args.list.now in
     let q = c.args.other.now in
     let old = c.args.list.now in
-    let n = c.in-ok-n.n in
+    let n = c.in_ok-n.n in
     let size : length p ≡ length (pointwise F p q) = sym (length_tab (length p) (λ i. F.mul (coeff F p i) (coeff F q i))) in
-    let holds = c.in-ok-n.ensures.holds in
+    let holds = c.in_ok-n.ensures.holds in
     let all : c.loop-i.i ≡ n = omega arith in
     record {
-      answer = accepts (min (length p) (length q)) (pointwise F p q) old c.admit.result c.min.result (length p) c.admit.ensures.answer c.min.ensures size n c.in-ok-n.was;
+      answer = accepts (min (length p) (length q)) (pointwise F p q) old c.admit.result c.min.result (length p) c.admit.ensures.answer c.min.ensures size n c.in_ok-n.was;
       answered =
-          accepts_list (min (length p) (length q)) (pointwise F p q) old c.admit.result c.min.result (length p) c.admit.ensures.answer c.min.ensures size n c.loop-i.list c.in-ok-n.was
+          accepts_list (min (length p) (length q)) (pointwise F p q) old c.admit.result c.min.result (length p) c.admit.ensures.answer c.min.ensures size n c.loop-i.list c.in_ok-n.was
           (filled_all (λ i. F.mul (coeff F p i) (coeff F q i)) c.loop-i.i n (pointwise F p q) old c.loop-i.list all (ap (λ m. tab m (λ i. F.mul (coeff F p i) (coeff F q i))) holds.0) c.loop-i.invariant);
     }

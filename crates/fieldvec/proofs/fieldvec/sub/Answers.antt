@@ -4,16 +4,16 @@ use Rattle.fieldvec.proofs.Places.{tab_poly_sub, length_poly_sub_max}
 use Rattle.fieldvec.proofs.Filled.{filled_more, filled_all, refuses, refuses_list, accepts, accepts_list}
 use Rattle.fieldvec.proofs.fieldvec.sub.Goals as goal
 
-pub returns-in-err-n : goal.returns-in-err-n
-returns-in-err-n g c =
+pub returns-in_err-n : goal.returns-in_err-n
+returns-in_err-n g c =
     let F = g.F.Field.field in
     let p = c.args.a.now in
     let q = c.args.b.now in
     let old = c.args.out.now in
     let size : c.max.result ≡ length (poly_sub F p q) = c.max.ensures ∙ sym (length_poly_sub_max F p q) in
     record {
-      answer = refuses (min (length p) (length q)) (poly_sub F p q) old c.admit.result c.min.result c.max.result c.admit.ensures.answer c.min.ensures size c.in-err-n.field-0.0 c.in-err-n.was c.from-residual.result c.from-residual.ensures.1;
-      answered = refuses_list (min (length p) (length q)) (poly_sub F p q) old c.admit.result c.min.result c.max.result c.admit.ensures.answer c.min.ensures size c.in-err-n.field-0.0 c.in-err-n.was;
+      answer = refuses (min (length p) (length q)) (poly_sub F p q) old c.admit.result c.min.result c.max.result c.admit.ensures.answer c.min.ensures size c.in_err-n.field-0.0 c.in_err-n.was c.from-residual.result c.from-residual.ensures.1;
+      answered = refuses_list (min (length p) (length q)) (poly_sub F p q) old c.admit.result c.min.result c.max.result c.admit.ensures.answer c.min.ensures size c.in_err-n.field-0.0 c.in_err-n.was;
     }
 
 pub loop-i-preserved : goal.loop-i-preserved
@@ -22,7 +22,7 @@ loop-i-preserved g c =
     let p = c.args.a.now in
     let q = c.args.b.now in
     let i = c.loop-i.i in
-    let holds = c.in-ok-n.ensures.holds in
+    let holds = c.in_ok-n.ensures.holds in
     filled_more (λ i. F.add (coeff F p i) (F.neg (coeff F q i))) c.args.out.now i c.loop-i.out c.loop-i.invariant c.difference.result (omega arith)
     (c.difference.ensures ∙ ap₂ (λ x y. F.add x (F.neg y)) c.entry.ensures c.entry-in-loop-i.ensures)
 
@@ -32,13 +32,13 @@ returns g c =
     let p = c.args.a.now in
     let q = c.args.b.now in
     let old = c.args.out.now in
-    let n = c.in-ok-n.n in
+    let n = c.in_ok-n.n in
     let size : c.max.result ≡ length (poly_sub F p q) = c.max.ensures ∙ sym (length_poly_sub_max F p q) in
-    let holds = c.in-ok-n.ensures.holds in
+    let holds = c.in_ok-n.ensures.holds in
     let all : c.loop-i.i ≡ n = omega arith in
     record {
-      answer = accepts (min (length p) (length q)) (poly_sub F p q) old c.admit.result c.min.result c.max.result c.admit.ensures.answer c.min.ensures size n c.in-ok-n.was;
+      answer = accepts (min (length p) (length q)) (poly_sub F p q) old c.admit.result c.min.result c.max.result c.admit.ensures.answer c.min.ensures size n c.in_ok-n.was;
       answered =
-          accepts_list (min (length p) (length q)) (poly_sub F p q) old c.admit.result c.min.result c.max.result c.admit.ensures.answer c.min.ensures size n c.loop-i.out c.in-ok-n.was
+          accepts_list (min (length p) (length q)) (poly_sub F p q) old c.admit.result c.min.result c.max.result c.admit.ensures.answer c.min.ensures size n c.loop-i.out c.in_ok-n.was
           (filled_all (λ i. F.add (coeff F p i) (F.neg (coeff F q i))) c.loop-i.i n (poly_sub F p q) old c.loop-i.out all (tab_poly_sub F p q n (holds.0 ∙ size)) c.loop-i.invariant);
     }

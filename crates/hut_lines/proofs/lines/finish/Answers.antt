@@ -8,17 +8,17 @@ use Rattle.hut_lines.specs.Shown.{finish_rows, not_mended}
 use Rattle.hut_lines.proofs.Saying.{only, only_read, only_refused, only_slip, only_unread, settle_refused, settle_not_done}
 use Rattle.hut_lines.proofs.lines.finish.Goals as goal
 
-pub returns-in-err-take-line : goal.returns-in-err-take-line
-returns-in-err-take-line c =
+pub returns-in_err-take_line : goal.returns-in_err-take_line
+returns-in_err-take_line c =
     let line = c.args.line.now in
     let p = err_from_is_err_and c.from-residual.result c.from-residual.ensures.1 in
-    rw (p.1, p.2) (only_refused finish_rows line _ (refused (take_line true line) _ c.in-err-take-line.ensures.answer))
+    rw (p.1, p.2) (only_refused finish_rows line _ (refused (take_line true line) _ c.in_err-take_line.ensures.answer))
 
 pub returns-in-Refused : goal.returns-in-Refused
 returns-in-Refused c =
     let line = c.args.line.now in
-    let b = view c.take-line.new.slip in
-    let told = c.in-ok-take-line.ensures in
+    let b = view c.take_line.new.slip in
+    let told = c.in_ok-take_line.ensures in
     let taken = accepted (take_line true line) b told.answer told.book in
     let settled = c.in-Refused.ensures in
     only finish_rows settled.decided line b taken _ (not_mended taken (settle_refused settled.follows))
@@ -26,24 +26,24 @@ returns-in-Refused c =
 pub unreachable-requires : goal.unreachable-requires
 unreachable-requires c = settle_not_done c.in-Done.ensures.follows
 
-pub returns-in-err-sail : goal.returns-in-err-sail
-returns-in-err-sail c =
+pub returns-in_err-sail : goal.returns-in_err-sail
+returns-in_err-sail c =
     let line = c.args.line.now in
-    let b = view c.take-line.new.slip in
-    let told = c.in-ok-take-line.ensures in
+    let b = view c.take_line.new.slip in
+    let told = c.in_ok-take_line.ensures in
     let taken = accepted (take_line true line) b told.answer told.book in
     let settled = c.in-Listed.ensures in
     let is_row = c.symbols.ensures.row ∙ ap row (only_slip c.settle.new.slips _ c.settle.array_long) in
-    let p = err_from_is_err_and c.from-residual-in-err-sail.result c.from-residual-in-err-sail.ensures.1 in
-    rw (p.1, p.2) (only_unread finish_rows settled.decided line b taken settled.follows _ is_row _ c.in-err-sail.ensures)
+    let p = err_from_is_err_and c.from-residual-in_err-sail.result c.from-residual-in_err-sail.ensures.1 in
+    rw (p.1, p.2) (only_unread finish_rows settled.decided line b taken settled.follows _ is_row _ c.in_err-sail.ensures)
 
 pub returns : goal.returns
 returns c =
     let line = c.args.line.now in
-    let b = view c.take-line.new.slip in
-    let told = c.in-ok-take-line.ensures in
+    let b = view c.take_line.new.slip in
+    let told = c.in_ok-take_line.ensures in
     let taken = accepted (take_line true line) b told.answer told.book in
     let settled = c.in-Listed.ensures in
     let is_row = c.symbols.ensures.row ∙ ap row (only_slip c.settle.new.slips _ c.settle.array_long) in
     rw c.nonzero.ensures
-    (only_read finish_rows settled.decided line b taken settled.follows _ is_row _ _ c.in-ok-sail.ensures)
+    (only_read finish_rows settled.decided line b taken settled.follows _ is_row _ _ c.in_ok-sail.ensures)

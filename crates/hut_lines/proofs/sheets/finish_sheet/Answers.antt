@@ -11,13 +11,13 @@ loop-k-preserved c =
     let out = c.loop-k.out in
     let inv = c.loop-k.invariant in
     let lines = lines_of c.args.input.now in
-    let text = c.copy-from-slice.new.self in
-    let few : k < length lines = omega (arith, c.min-shown.ensures, c.line-count.ensures) in
+    let text = c.copy_from_slice.new.self in
+    let few : k < length lines = omega (arith, c.min-shown.ensures, c.line_count.ensures) in
     let room : 31 * k + 31 ≤ length out = search rules in
     let long : length text ≡ 31 = search rules in
     let next = next_line c.loop-k.rest.now lines k inv.0 few in (
-      ap lines_of c.cut-line.ensures.rest ∙ next.1,
-      one_more out k text room long finish_rows lines _ _ inv.1 (c.cut-line.ensures.line ∙ next.0) c.copy-from-slice.ensures.after c.finish-line-text.ensures,
+      ap lines_of c.cut_line.ensures.rest ∙ next.1,
+      one_more out k text room long finish_rows lines _ _ inv.1 (c.cut_line.ensures.line ∙ next.0) c.copy_from_slice.ensures.after c.finish_line-text.ensures,
       put_behind out k text room long c.args.out.now inv.2,
       put_length out k text room long ∙ inv.3,
     )
@@ -28,7 +28,7 @@ returns c =
     let out = c.args.out.now in
     let inv = c.loop-k.invariant in
     let end : c.loop-k.k ≡ c.min-shown.result = omega arith in
-    let fits : c.min-shown.result ≡ fitting lines out = c.min-shown.ensures ∙ ap (λ (n : ℕ). min n (length out / 31)) c.line-count.ensures in
+    let fits : c.min-shown.result ≡ fitting lines out = c.min-shown.ensures ∙ ap (λ (n : ℕ). min n (length out / 31)) c.line_count.ensures in
     record {
       bytes = ap (λ (m : ℕ). 31 * m) fits;
       lines = subst (λ (m : ℕ). Output finish_rows m lines c.loop-k.out) (end ∙ fits) inv.1;

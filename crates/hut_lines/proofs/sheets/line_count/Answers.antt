@@ -21,7 +21,7 @@ loop-rest-smaller c =
     let ne = eqb-false _ 0 (sym c.loop-rest-test.ensures) in
     let some : 0 < length rest = omega arith in
     let less = past_less rest some in
-    let same = ap length c.cut-line.ensures.rest in
+    let same = ap length c.cut_line.ensures.rest in
     omega arith
 
 pub loop-rest-preserved : goal.loop-rest-preserved
@@ -30,9 +30,9 @@ loop-rest-preserved c =
     let ne = eqb-false _ 0 (sym c.loop-rest-test.ensures) in
     let some : 0 < length rest = omega arith in
     let less = past_less rest some in
-    let same = ap length c.cut-line.ensures.rest in
+    let same = ap length c.cut_line.ensures.rest in
     let lines : length (lines_of rest) ≡ length (lines_of (past_line rest)) + 1 = ap length (cut rest some) ∙ omega arith in
-    let same_lines = ap (λ xs. length (lines_of xs)) c.cut-line.ensures.rest in
+    let same_lines = ap (λ xs. length (lines_of xs)) c.cut_line.ensures.rest in
     let inv = c.loop-rest.invariant in
     (omega (arith, inv.0), omega (arith, inv.1))
 

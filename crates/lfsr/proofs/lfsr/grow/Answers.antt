@@ -13,12 +13,12 @@ returns g c =
     let w = c.args.w.now in
     let m = c.args.m in
     let len = c.args.len in
-    let ol = c.args.old-len in
+    let ol = c.args.old_len in
     let x = c.args.x in
     let k = c.args.c in
     let n = ol + x - len in
     let zs = c.clear.new.list in
-    let ys = c.put-front.new.to in
+    let ys = c.put_front.new.to in
     let lz : length zs ≡ n = omega arith in
     let lc : length (take len conn) ≡ len = length-take-le len conn (omega arith) in
     let lo : length (take ol w) ≡ ol = length-take-le ol w (omega arith) in
@@ -31,9 +31,9 @@ returns g c =
     let la : length ys ≡ length w - m = omega arith in
     let at-m : drop m (put_mid m (length w - m) w ys) ≡ ys ++ drop (length w - m) (drop m w) = drop_at (take m w) (ys ++ drop (length w - m) (drop m w)) m (length-take-le m w (omega arith)) in
     let from : take len (ys ++ drop (length w - m) (drop m w)) ≡ take len ys = take-append-le len ys (drop (length w - m) (drop m w)) (omega arith) in
-    let fy : take len ys ≡ take len conn = ap (take len) c.put-front.ensures ∙ take_at (take len conn) _ len lc in
+    let fy : take len ys ≡ take len conn = ap (take len) c.put_front.ensures ∙ take_at (take len conn) _ len lc in
     let kept : take len (drop m (put_mid m (length w - m) w ys)) ≡ take len conn = ap (take len) at-m ∙ from ∙ fy in
     record {
-      list = ap₂ ◌++◌ (c.subtract-shifted.ensures ∙ ap₂ (λ p o. change F p k x o) (t1 ∙ zt) t2 ∙ ch) d1;
-      old = ap (take len) c.move-down.ensures ∙ take_at _ _ len (ap length kept ∙ lc) ∙ kept;
+      list = ap₂ ◌++◌ (c.subtract_shifted.ensures ∙ ap₂ (λ p o. change F p k x o) (t1 ∙ zt) t2 ∙ ch) d1;
+      old = ap (take len) c.move_down.ensures ∙ take_at _ _ len (ap length kept ∙ lc) ∙ kept;
     }

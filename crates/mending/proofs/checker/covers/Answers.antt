@@ -4,18 +4,18 @@ use Rattle.std.proofs.lemmas.Bool.Decides.{not_from_Decides}
 use Rattle.slip.specs.View.{view}
 use Rattle.mending.proofs.Checking.{decided_yes, decided_no, covers_more, covers_all}
 use Rattle.mending.proofs.checker.covers.Goals as goal
-use Rattle.mending.proofs.checker.covers.Goals.{then-is-doubted+else-not-names, else-is-doubted}
+use Rattle.mending.proofs.checker.covers.Goals.{then-is-doubted+else-not-names, else-is_doubted}
 
 pub returns-then-not-names : goal.returns-then-not-names
 returns-then-not-names c = decided_no (λ covers.
-    not_from_Decides c.names.result c.names.ensures c.if-not-names.true (covers c.loop-place.place (sym c.is-doubted.ensures ∙ c.if-is-doubted.true)))
+    not_from_Decides c.names.result c.names.ensures c.if-not-names.true (covers c.loop-place.place (sym c.is_doubted.ensures ∙ c.if-is_doubted.true)))
 
 pub loop-place-preserved : goal.loop-place-preserved
 loop-place-preserved c =
     let more = covers_more (view c.args.slip.now) c.args.records.now c.loop-place.place in
-    elim c.if-is-doubted.branch [
+    elim c.if-is_doubted.branch [
       | then-is-doubted+else-not-names w ↦ more (λ q. w.names.ensures.0 w.if-not-names.false) c.loop-place.invariant
-      | else-is-doubted w ↦ more (λ q. absurd (both_ways _ w.if-is-doubted.false (c.is-doubted.ensures ∙ q))) c.loop-place.invariant
+      | else-is_doubted w ↦ more (λ q. absurd (both_ways _ w.if-is_doubted.false (c.is_doubted.ensures ∙ q))) c.loop-place.invariant
     ]
 
 pub returns : goal.returns

@@ -20,12 +20,12 @@ mended-requires g c = (c.laws.ensures.alphabet, sensible_changes (view c.args.sl
 pub engine-requires : goal.engine-requires
 engine-requires g c = search (rules, engine_fits)
 
-pub meets-target-requires : goal.meets-target-requires
-meets-target-requires g c = search (rules, engine_fits)
+pub meets-target-requires : goal.meets_target-requires
+meets_target-requires g c = search (rules, engine_fits)
 
 pub returns : goal.returns
 returns g c = fits_decided g.SymbolField.Field.numbers g.SymbolField.Field.field g.C.Checksum.code c.laws.ensures.alphabet
     (view c.args.slip.now) c.args.records.now c.number-nothing.result c.bound.result
     (c.number-nothing.ensures.number ∙ ap g.SymbolField.Field.numbers.number c.zero.ensures) c.bound.ensures
     (row_below 32 refl c.args.slip.now) (c.formed.ensures.0 c.if-not-formed.false) (view c.mended.result) c.mended.ensures
-    (held g.C.Checksum.code c.engine.result.entries) c.engine.ensures c.meets-target.result c.meets-target.ensures
+    (held g.C.Checksum.code c.engine.result.entries) c.engine.ensures c.meets_target.result c.meets_target.ensures

@@ -16,7 +16,7 @@ returns-in-Some g c =
     let r = c.args.records in
     let w = length c.args.work.now in
     let some : unmendable C r w b ≡ Some c.in-Some.fault =
-    fault_is C r w b c.checksum-length.result c.code-length.result c.bound.result c.checksum-length.ensures c.code-length.ensures c.bound.ensures (Some c.in-Some.fault) c.in-Some.ensures in
+    fault_is C r w b c.checksum_length.result c.code_length.result c.bound.result c.checksum_length.ensures c.code_length.ensures c.bound.ensures (Some c.in-Some.fault) c.in-Some.ensures in
     record {
       found = barred some;
       working = fault_kept g.CorrectionField.Field.field c.args.work.now C r w b c.in-Some.fault some;
@@ -28,14 +28,14 @@ returns-then-fits g c =
     let b = view c.args.slip.now in
     let r = c.args.records in
     let w = length c.args.work.now in
-    let law : Lawful C = rows_lawful g.SymbolField.Field.numbers g.SymbolField.Field.field g.CorrectionField.Field.field g.CorrectionField.ExtensionField.lifted c.lift-laws.ensures
+    let law : Lawful C = rows_lawful g.SymbolField.Field.numbers g.SymbolField.Field.field g.CorrectionField.Field.field g.CorrectionField.ExtensionField.lifted c.lift_laws.ensures
     g.C.Checksum.code c.laws.ensures.lawful c.laws.ensures.alphabet in
     let none : unmendable C r w b ≡ None =
-    fault_is C r w b c.checksum-length.result c.code-length.result c.bound.result c.checksum-length.ensures c.code-length.ensures c.bound.ensures None c.in-default.ensures in
+    fault_is C r w b c.checksum_length.result c.code_length.result c.bound.result c.checksum_length.ensures c.code_length.ensures c.bound.ensures None c.in_default.ensures in
     record {
-      found = found C r w b law (row_below 32 refl c.args.slip.now) none c.in-Some-bch-errors.proposal c.records.result.now c.records.ensures
-          c.in-Some-bch-errors.ensures.proposes (c.fits.ensures.0 c.if-fits.true);
-      working = worked_zeros g.CorrectionField.Field.field (bound g.C.Checksum.code) c.args.work.now c.bch-errors.new.work (able C r w b none).working c.bch-errors.ensures.after;
+      found = found C r w b law (row_below 32 refl c.args.slip.now) none c.in-Some-bch_errors.proposal c.records.result.now c.records.ensures
+          c.in-Some-bch_errors.ensures.proposes (c.fits.ensures.0 c.if-fits.true);
+      working = worked_zeros g.CorrectionField.Field.field (bound g.C.Checksum.code) c.args.work.now c.bch_errors.new.work (able C r w b none).working c.bch_errors.ensures.after;
     }
 
 pub returns-else-fits : goal.returns-else-fits
@@ -44,14 +44,14 @@ returns-else-fits g c =
     let b = view c.args.slip.now in
     let r = c.args.records in
     let w = length c.args.work.now in
-    let law : Lawful C = rows_lawful g.SymbolField.Field.numbers g.SymbolField.Field.field g.CorrectionField.Field.field g.CorrectionField.ExtensionField.lifted c.lift-laws.ensures
+    let law : Lawful C = rows_lawful g.SymbolField.Field.numbers g.SymbolField.Field.field g.CorrectionField.Field.field g.CorrectionField.ExtensionField.lifted c.lift_laws.ensures
     g.C.Checksum.code c.laws.ensures.lawful c.laws.ensures.alphabet in
     let none : unmendable C r w b ≡ None =
-    fault_is C r w b c.checksum-length.result c.code-length.result c.bound.result c.checksum-length.ensures c.code-length.ensures c.bound.ensures None c.in-default.ensures in
+    fault_is C r w b c.checksum_length.result c.code_length.result c.bound.result c.checksum_length.ensures c.code_length.ensures c.bound.ensures None c.in_default.ensures in
     record {
-      found = unfit C r w b law (row_below 32 refl c.args.slip.now) none c.in-Some-bch-errors.proposal c.records.result.now c.records.ensures
-          c.in-Some-bch-errors.ensures.proposes (not_from_Decides c.fits.result c.fits.ensures c.if-fits.false);
-      working = worked_zeros g.CorrectionField.Field.field (bound g.C.Checksum.code) c.args.work.now c.bch-errors.new.work (able C r w b none).working c.bch-errors.ensures.after;
+      found = unfit C r w b law (row_below 32 refl c.args.slip.now) none c.in-Some-bch_errors.proposal c.records.result.now c.records.ensures
+          c.in-Some-bch_errors.ensures.proposes (not_from_Decides c.fits.result c.fits.ensures c.if-fits.false);
+      working = worked_zeros g.CorrectionField.Field.field (bound g.C.Checksum.code) c.args.work.now c.bch_errors.new.work (able C r w b none).working c.bch_errors.ensures.after;
     }
 
 pub returns-in-None : goal.returns-in-None
@@ -60,11 +60,11 @@ returns-in-None g c =
     let b = view c.args.slip.now in
     let r = c.args.records in
     let w = length c.args.work.now in
-    let law : Lawful C = rows_lawful g.SymbolField.Field.numbers g.SymbolField.Field.field g.CorrectionField.Field.field g.CorrectionField.ExtensionField.lifted c.lift-laws.ensures
+    let law : Lawful C = rows_lawful g.SymbolField.Field.numbers g.SymbolField.Field.field g.CorrectionField.Field.field g.CorrectionField.ExtensionField.lifted c.lift_laws.ensures
     g.C.Checksum.code c.laws.ensures.lawful c.laws.ensures.alphabet in
     let none : unmendable C r w b ≡ None =
-    fault_is C r w b c.checksum-length.result c.code-length.result c.bound.result c.checksum-length.ensures c.code-length.ensures c.bound.ensures None c.in-default.ensures in
+    fault_is C r w b c.checksum_length.result c.code_length.result c.bound.result c.checksum_length.ensures c.code_length.ensures c.bound.ensures None c.in_default.ensures in
     record {
       found = none_found C r w b law (row_below 32 refl c.args.slip.now) none c.in-None.ensures.proposes;
-      working = worked_zeros g.CorrectionField.Field.field (bound g.C.Checksum.code) c.args.work.now c.bch-errors.new.work (able C r w b none).working c.bch-errors.ensures.after;
+      working = worked_zeros g.CorrectionField.Field.field (bound g.C.Checksum.code) c.args.work.now c.bch_errors.new.work (able C r w b none).working c.bch_errors.ensures.after;
     }

@@ -8,4 +8,4 @@ pub returns : goal.returns
 returns c =
     let text = c.args.text.now in
     let long : length text ≡ 31 = search rules in
-    put_between text c.args.at c.args.width c.args.number c.write-column.new.out (omega arith) c.write-column.ensures.value
+    put_between text c.args.at c.args.width c.args.number c.write_column.new.out (omega arith) c.write_column.ensures.value

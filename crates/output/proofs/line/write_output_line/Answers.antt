@@ -14,5 +14,5 @@ returns c =
     let same :
     column 6 told.line ++ (column 4 c.from.result ++ (column 4 told.changes ++ (column 8 c.from-2.result ++ (column 8 c.from-3.result ++ drop 30 (set text 30 10))))) ≡ output_line told = simp (c.from.ensures, c.from-2.ensures, c.from-3.ensures, end) in
     five_columns (set text 30 10) _ _ _ _ _ told.line _ told.changes _ _
-    c.put-column.ensures c.put-column-2.ensures c.put-column-3.ensures c.put-column-4.ensures c.put-column-5.ensures
+    c.put_column.ensures c.put_column-2.ensures c.put_column-3.ensures c.put_column-4.ensures c.put_column-5.ensures
     ∙ same

@@ -3,5 +3,5 @@ use Rattle.polynomial.proofs.polynomial.find_nonzero_distinct_roots.Goals as goa
 
 pub returns : goal.returns
 returns g c =
-    let order = c.in-ok-order.order in
-    (order, c.in-ok-order.ensures, λ p. all_left g.F.Field.field p c.args.base order c.one.result c.one.ensures)
+    let order = c.in_ok-order.order in
+    (order, c.in_ok-order.ensures, λ p. all_left g.F.Field.field p c.args.base order c.one.result c.one.ensures)

@@ -8,29 +8,29 @@ use Rattle.polynomial.proofs.Degrees.{degree_below}
 use Rattle.fieldvec.proofs.Filled.{filled_more, filled_all, refuses, refuses_list, accepts, accepts_list}
 use Rattle.polynomial.proofs.polynomial.formal_derivative.Goals as goal
 
-pub returns-in-err-n : goal.returns-in-err-n
-returns-in-err-n g c =
+pub returns-in_err-n : goal.returns-in_err-n
+returns-in_err-n g c =
     let F = g.F.Field.field in
     let p = c.args.list.now in
     let old = c.args.out.now in
-    let size : c.top-power.result ≡ length (derivative F p) = c.top-power.ensures ∙ sym (length_tab (degree F p) (λ i. multiple F (coeff F p (suc i)) (suc i))) in
+    let size : c.top_power.result ≡ length (derivative F p) = c.top_power.ensures ∙ sym (length_tab (degree F p) (λ i. multiple F (coeff F p (suc i)) (suc i))) in
     record {
-      answer = refuses (length p) (derivative F p) old c.admit.result (length p) c.top-power.result c.admit.ensures.answer refl size c.in-err-n.field-0.0 c.in-err-n.was c.from-residual.result c.from-residual.ensures.1;
-      answered = refuses_list (length p) (derivative F p) old c.admit.result (length p) c.top-power.result c.admit.ensures.answer refl size c.in-err-n.field-0.0 c.in-err-n.was;
+      answer = refuses (length p) (derivative F p) old c.admit.result (length p) c.top_power.result c.admit.ensures.answer refl size c.in_err-n.field-0.0 c.in_err-n.was c.from-residual.result c.from-residual.ensures.1;
+      answered = refuses_list (length p) (derivative F p) old c.admit.result (length p) c.top_power.result c.admit.ensures.answer refl size c.in_err-n.field-0.0 c.in_err-n.was;
     }
 
 pub offset-bounds-list-i : goal.offset-bounds-list-i
-offset-bounds-list-i g c = omega (arith, degree_below g.F.Field.field c.args.list.now, c.in-ok-n.ensures.holds)
+offset-bounds-list-i g c = omega (arith, degree_below g.F.Field.field c.args.list.now, c.in_ok-n.ensures.holds)
 
 pub bounds-list-i : goal.bounds-list-i
-bounds-list-i g c = omega (arith, degree_below g.F.Field.field c.args.list.now, c.in-ok-n.ensures.holds)
+bounds-list-i g c = omega (arith, degree_below g.F.Field.field c.args.list.now, c.in_ok-n.ensures.holds)
 
 pub loop-i-preserved : goal.loop-i-preserved
 loop-i-preserved g c =
     let F = g.F.Field.field in
     let p = c.args.list.now in
     let i = c.loop-i.i in
-    let holds = c.in-ok-n.ensures.holds in
+    let holds = c.in_ok-n.ensures.holds in
     let y = c.index-list-i.result in
     let below = degree_below F p in
     let inside : i + 1 < length p = omega arith in
@@ -43,13 +43,13 @@ returns g c =
     let F = g.F.Field.field in
     let p = c.args.list.now in
     let old = c.args.out.now in
-    let n = c.in-ok-n.n in
-    let size : c.top-power.result ≡ length (derivative F p) = c.top-power.ensures ∙ sym (length_tab (degree F p) (λ i. multiple F (coeff F p (suc i)) (suc i))) in
-    let holds = c.in-ok-n.ensures.holds in
+    let n = c.in_ok-n.n in
+    let size : c.top_power.result ≡ length (derivative F p) = c.top_power.ensures ∙ sym (length_tab (degree F p) (λ i. multiple F (coeff F p (suc i)) (suc i))) in
+    let holds = c.in_ok-n.ensures.holds in
     let all : c.loop-i.i ≡ n = omega arith in
     record {
-      answer = accepts (length p) (derivative F p) old c.admit.result (length p) c.top-power.result c.admit.ensures.answer refl size n c.in-ok-n.was;
+      answer = accepts (length p) (derivative F p) old c.admit.result (length p) c.top_power.result c.admit.ensures.answer refl size n c.in_ok-n.was;
       answered =
-          accepts_list (length p) (derivative F p) old c.admit.result (length p) c.top-power.result c.admit.ensures.answer refl size n c.loop-i.out c.in-ok-n.was
-          (filled_all (λ i. multiple F (coeff F p (suc i)) (suc i)) c.loop-i.i n (derivative F p) old c.loop-i.out all (ap (λ m. tab m (λ i. multiple F (coeff F p (suc i)) (suc i))) (holds.0 ∙ c.top-power.ensures)) c.loop-i.invariant);
+          accepts_list (length p) (derivative F p) old c.admit.result (length p) c.top_power.result c.admit.ensures.answer refl size n c.loop-i.out c.in_ok-n.was
+          (filled_all (λ i. multiple F (coeff F p (suc i)) (suc i)) c.loop-i.i n (derivative F p) old c.loop-i.out all (ap (λ m. tab m (λ i. multiple F (coeff F p (suc i)) (suc i))) (holds.0 ∙ c.top_power.ensures)) c.loop-i.invariant);
     }

@@ -6,11 +6,11 @@ use Rattle.polynomial.proofs.Degrees.{degree_below}
 use Rattle.fieldvec.proofs.Filled.{asked_some}
 use Rattle.polynomial.proofs.polynomial.leading_term.Goals as goal
 
-pub offset-bounds-list-top-power : goal.offset-bounds-list-top-power
-offset-bounds-list-top-power g c = omega (arith, degree_below g.F.Field.field c.args.list.now)
+pub offset-bounds-list-top_power : goal.offset-bounds-list-top_power
+offset-bounds-list-top_power g c = omega (arith, degree_below g.F.Field.field c.args.list.now)
 
-pub bounds-list-top-power : goal.bounds-list-top-power
-bounds-list-top-power g c =
+pub bounds-list-top_power : goal.bounds-list-top_power
+bounds-list-top_power g c =
     let some : 0 < length c.args.list.now = search rules in
     omega (arith, degree_below g.F.Field.field c.args.list.now)
 
@@ -20,6 +20,6 @@ returns g c =
     let p = c.args.list.now in
     let below = degree_below F p in
     let some : 0 < length p = search rules in
-    let inside : c.top-power.result < length p = omega arith in
-    let y = c.index-list-top-power.result in
-    ap Ok (c.index-list-top-power.is ∙ get_or_default p c.top-power.result y F.𝟘 inside ∙ ap (coeff F p) c.top-power.ensures) ∙ asked_some (length p) (leading F p) some
+    let inside : c.top_power.result < length p = omega arith in
+    let y = c.index-list-top_power.result in
+    ap Ok (c.index-list-top_power.is ∙ get_or_default p c.top_power.result y F.𝟘 inside ∙ ap (coeff F p) c.top_power.ensures) ∙ asked_some (length p) (leading F p) some

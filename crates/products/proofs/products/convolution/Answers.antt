@@ -6,17 +6,17 @@ use Rattle.fieldvec.proofs.Filled.{refuses, refuses_list, accepts, accepts_list}
 use Rattle.products.proofs.Tabulated.{length_some_terms, no_terms, terms, set_first}
 use Rattle.products.proofs.products.convolution.Goals as goal
 
-pub returns-in-err-n : goal.returns-in-err-n
-returns-in-err-n g c =
+pub returns-in_err-n : goal.returns-in_err-n
+returns-in_err-n g c =
     let F = g.F.Field.field in
     let p = c.args.a.now in
     let s = c.args.s.now in
     let old = c.args.out.now in
-    let many : c.saturating-sub-terms.result ≡ length s - degree F p = c.saturating-sub-terms.ensures ∙ ap (λ k. length s - k) c.top-power-power.ensures in
+    let many : c.saturating_sub-terms.result ≡ length s - degree F p = c.saturating_sub-terms.ensures ∙ ap (λ k. length s - k) c.top_power-power.ensures in
     let size : c.max.result ≡ length (convolved F p s) = c.max.ensures ∙ ap (λ n. max n 1) many ∙ length_some_terms F (length s - degree F p) (λ j. times F p (coeff F s) (degree F p + j)) in
     record {
-      answer = refuses (length p) (convolved F p s) old c.admit.result (length p) c.max.result c.admit.ensures.answer refl size c.in-err-n.field-0.0 c.in-err-n.was c.from-residual.result c.from-residual.ensures.1;
-      answered = refuses_list (length p) (convolved F p s) old c.admit.result (length p) c.max.result c.admit.ensures.answer refl size c.in-err-n.field-0.0 c.in-err-n.was;
+      answer = refuses (length p) (convolved F p s) old c.admit.result (length p) c.max.result c.admit.ensures.answer refl size c.in_err-n.field-0.0 c.in_err-n.was c.from-residual.result c.from-residual.ensures.1;
+      answered = refuses_list (length p) (convolved F p s) old c.admit.result (length p) c.max.result c.admit.ensures.answer refl size c.in_err-n.field-0.0 c.in_err-n.was;
     }
 
 pub returns-then-terms-eq0 : goal.returns-then-terms-eq0
@@ -25,17 +25,17 @@ returns-then-terms-eq0 g c =
     let p = c.args.a.now in
     let s = c.args.s.now in
     let old = c.args.out.now in
-    let n = c.in-ok-n.n in
-    let holds = c.in-ok-n.ensures.holds in
-    let many : c.saturating-sub-terms.result ≡ length s - degree F p = c.saturating-sub-terms.ensures ∙ ap (λ k. length s - k) c.top-power-power.ensures in
+    let n = c.in_ok-n.n in
+    let holds = c.in_ok-n.ensures.holds in
+    let many : c.saturating_sub-terms.result ≡ length s - degree F p = c.saturating_sub-terms.ensures ∙ ap (λ k. length s - k) c.top_power-power.ensures in
     let size : c.max.result ≡ length (convolved F p s) = c.max.ensures ∙ ap (λ n. max n 1) many ∙ length_some_terms F (length s - degree F p) (λ j. times F p (coeff F s) (degree F p + j)) in
     let none : length s - degree F p ≡ 0 = sym many ∙ c.if-terms-eq0.true in
     let one : n ≡ 1 = holds.0 ∙ c.max.ensures ∙ ap (λ n. max n 1) c.if-terms-eq0.true in
     let room : 0 < length old = omega arith in
     record {
-      answer = accepts (length p) (convolved F p s) old c.admit.result (length p) c.max.result c.admit.ensures.answer refl size n c.in-ok-n.was;
+      answer = accepts (length p) (convolved F p s) old c.admit.result (length p) c.max.result c.admit.ensures.answer refl size n c.in_ok-n.was;
       answered =
-          accepts_list (length p) (convolved F p s) old c.admit.result (length p) c.max.result c.admit.ensures.answer refl size n _ c.in-ok-n.was
+          accepts_list (length p) (convolved F p s) old c.admit.result (length p) c.max.result c.admit.ensures.answer refl size n _ c.in_ok-n.was
           (set_first F c.zero.result old n c.zero.ensures room one ∙ ap (λ t. t ++ drop n old) (sym (no_terms F (length s - degree F p) (λ j. times F p (coeff F s) (degree F p + j)) none)));
     }
 
@@ -45,18 +45,18 @@ returns g c =
     let p = c.args.a.now in
     let s = c.args.s.now in
     let old = c.args.out.now in
-    let n = c.in-ok-n.n in
-    let holds = c.in-ok-n.ensures.holds in
-    let k = c.saturating-sub-terms.result in
-    let many : k ≡ length s - degree F p = c.saturating-sub-terms.ensures ∙ ap (λ k. length s - k) c.top-power-power.ensures in
+    let n = c.in_ok-n.n in
+    let holds = c.in_ok-n.ensures.holds in
+    let k = c.saturating_sub-terms.result in
+    let many : k ≡ length s - degree F p = c.saturating_sub-terms.ensures ∙ ap (λ k. length s - k) c.top_power-power.ensures in
     let size : c.max.result ≡ length (convolved F p s) = c.max.ensures ∙ ap (λ n. max n 1) many ∙ length_some_terms F (length s - degree F p) (λ j. times F p (coeff F s) (degree F p + j)) in
     let some : 0 < length s - degree F p = omega arith in
     let all : k ≡ n = omega arith in
-    let list : tab k (λ j. times F p (coeff F s) (c.top-power-power.result + j)) ≡ convolved F p s =
-    ap₂ (λ m d. tab m (λ j. times F p (coeff F s) (d + j))) many c.top-power-power.ensures ∙ terms F (length s - degree F p) (λ j. times F p (coeff F s) (degree F p + j)) some in
+    let list : tab k (λ j. times F p (coeff F s) (c.top_power-power.result + j)) ≡ convolved F p s =
+    ap₂ (λ m d. tab m (λ j. times F p (coeff F s) (d + j))) many c.top_power-power.ensures ∙ terms F (length s - degree F p) (λ j. times F p (coeff F s) (degree F p + j)) some in
     record {
-      answer = accepts (length p) (convolved F p s) old c.admit.result (length p) c.max.result c.admit.ensures.answer refl size n c.in-ok-n.was;
+      answer = accepts (length p) (convolved F p s) old c.admit.result (length p) c.max.result c.admit.ensures.answer refl size n c.in_ok-n.was;
       answered =
-          accepts_list (length p) (convolved F p s) old c.admit.result (length p) c.max.result c.admit.ensures.answer refl size n c.series-product.new.out c.in-ok-n.was
-          (c.series-product.ensures ∙ ap₂ (λ t m. t ++ drop m old) list all);
+          accepts_list (length p) (convolved F p s) old c.admit.result (length p) c.max.result c.admit.ensures.answer refl size n c.series_product.new.out c.in_ok-n.was
+          (c.series_product.ensures ∙ ap₂ (λ t m. t ++ drop m old) list all);
     }

@@ -7,7 +7,7 @@ use Rattle.products.proofs.products.series_product.Goals as goal
 pub loop-j-preserved : goal.loop-j-preserved
 loop-j-preserved g c =
     let F = g.F.Field.field in
-    filled_more (λ j. times F c.args.p.now (coeff F c.args.q.now) (c.args.from + j)) c.args.out.now c.loop-j.j c.loop-j.out c.loop-j.invariant c.product-term.result (omega arith) c.product-term.ensures
+    filled_more (λ j. times F c.args.p.now (coeff F c.args.q.now) (c.args.from + j)) c.args.out.now c.loop-j.j c.loop-j.out c.loop-j.invariant c.product_term.result (omega arith) c.product_term.ensures
 
 pub returns : goal.returns
 returns g c =

@@ -16,11 +16,11 @@ pub loop-part-preserved : goal.loop-part-preserved
 loop-part-preserved g c =
     let now = c.loop-part.part-iterator in
     let later = c.next.new.self in
-    let x = c.in-ok-read-element.field-0 in
+    let x = c.in_ok-read_element.field-0 in
     let step = c.in-Some.ensures.steps in
     let kept = step.1.0 in
     let comma = c.loop-part.invariant.1 in
-    let read = c.in-ok-read-element.ensures in (
+    let read = c.in_ok-read_element.ensures in (
       read_more
           g.F.Field.numbers
           (split_text c.into-iter-part-iterator.result)
@@ -40,7 +40,7 @@ loop-part-preserved g c =
           step.1.1
           read.0
           read.1
-          (pushed (x ∷ []) refl c.in-ok-push.was c.push.ensures.items),
+          (pushed (x ∷ []) refl c.in_ok-push.was c.push.ensures.items),
       cc,
     )
 

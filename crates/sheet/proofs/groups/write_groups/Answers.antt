@@ -6,7 +6,7 @@ pub loop-i-preserved : goal.loop-i-preserved
 loop-i-preserved c =
     let i = c.loop-i.i in
     let more = placed_more c.args.case c.args.symbols.now i in
-    let kept = length-set c.loop-i.text (i + i / 4) c.unwrap-or.result in
+    let kept = length-set c.loop-i.text (i + i / 4) c.unwrap_or.result in
     (cc, cc)
 
 pub returns : goal.returns

@@ -7,10 +7,10 @@ use Rattle.sheet.proofs.sealed.sealed_row.Goals as goal
 pub unwrap-requires : goal.unwrap-requires
 unwrap-requires c = ap is_ok (c.seal.ensures.answer ∙ ap answer (eight_held (view c.args.slip.now) c.requires))
 
-pub copy-from-slice-requires : goal.copy-from-slice-requires
-copy-from-slice-requires c =
+pub copy-from-slice-requires : goal.copy_from_slice-requires
+copy_from_slice-requires c =
     let b = view c.args.slip.now in
     sym (ap length (eight_sealed b c.requires _ _ c.seal.ensures.book c.symbols.ensures.row) ∙ twelve_sealed b c.requires)
 
 pub returns : goal.returns
-returns c = c.copy-from-slice.ensures.after ∙ eight_sealed (view c.args.slip.now) c.requires _ _ c.seal.ensures.book c.symbols.ensures.row
+returns c = c.copy_from_slice.ensures.after ∙ eight_sealed (view c.args.slip.now) c.requires _ _ c.seal.ensures.book c.symbols.ensures.row

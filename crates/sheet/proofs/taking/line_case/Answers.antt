@@ -7,14 +7,14 @@ pub returns-in-Some : goal.returns-in-Some
 returns-in-Some c =
     let line = c.args.line.now in
     let i = c.loop-byte.byte-index in
-    let here = ap (λ o. unwrap_or o (line_case (drop (i + 1) line))) (sym c.letter-case.ensures ∙ c.in-Some.is) in
+    let here = ap (λ o. unwrap_or o (line_case (drop (i + 1) line))) (sym c.letter_case.ensures ∙ c.in-Some.is) in
     sym (sym c.loop-byte.invariant ∙ at_drop_more line_case line i 0 c.loop-byte-test.true ∙ here)
 
 pub loop-byte-preserved : goal.loop-byte-preserved
 loop-byte-preserved c =
     let line = c.args.line.now in
     let i = c.loop-byte.byte-index in
-    let here = ap (λ o. unwrap_or o (line_case (drop (i + 1) line))) (sym c.letter-case.ensures ∙ c.in-default.is) in
+    let here = ap (λ o. unwrap_or o (line_case (drop (i + 1) line))) (sym c.letter_case.ensures ∙ c.in_default.is) in
     sym (sym c.loop-byte.invariant ∙ at_drop_more line_case line i 0 c.loop-byte-test.true ∙ here)
 
 pub returns : goal.returns

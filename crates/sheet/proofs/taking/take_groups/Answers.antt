@@ -6,17 +6,17 @@ use Rattle.sheet.specs.Taking.{taken_all, outcome}
 use Rattle.sheet.proofs.BytesTaken.{next_byte, bad_byte}
 use Rattle.sheet.proofs.taking.take_groups.Goals as goal
 
-pub returns-in-err-take-byte : goal.returns-in-err-take-byte
-returns-in-err-take-byte c =
+pub returns-in_err-take_byte : goal.returns-in_err-take_byte
+returns-in_err-take_byte c =
     let p = err_from_is_err_and c.from-residual.result c.from-residual.ensures.1 in
     rw (p.1, p.2)
     (bad_byte c.args.blanks c.args.case c.args.groups.now c.loop-place.place (view c.loop-place.slip) c.loop-place-test.true _ _ c.loop-place.invariant
-    c.in-err-take-byte.ensures)
+    c.in_err-take_byte.ensures)
 
 pub loop-place-preserved : goal.loop-place-preserved
 loop-place-preserved c =
     next_byte c.args.blanks c.args.case c.args.groups.now c.loop-place.place (view c.loop-place.slip) c.loop-place-test.true
-    (view c.take-byte.new.slip) _ c.loop-place.invariant c.in-ok-take-byte.ensures
+    (view c.take_byte.new.slip) _ c.loop-place.invariant c.in_ok-take_byte.ensures
 
 pub returns : goal.returns
 returns c =

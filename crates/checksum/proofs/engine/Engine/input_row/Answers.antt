@@ -12,7 +12,7 @@ loop-symbol-preserved g c =
     let i = c.loop-symbol.symbol-index in
     let before = held code c.loop-symbol.self.entries in
     let x = c.symbol-item.result in
-    ap (λ r. residue_from F code.lower r (drop (i + 1) row)) c.input-fe.ensures
+    ap (λ r. residue_from F code.lower r (drop (i + 1) row)) c.input_fe.ensures
     ∙ ap (λ v. residue_from F code.lower (modulo F code.lower (v ∷ before)) (drop (i + 1) row)) c.symbol-item.is
     ∙ sym (at_drop_more (residue_from F code.lower before) row i x (omega arith))
     ∙ c.loop-symbol.invariant

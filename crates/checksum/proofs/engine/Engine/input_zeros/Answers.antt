@@ -9,7 +9,7 @@ returns g c =
     let F = g.C.SymbolField.Field.field in
     let code = g.C.Checksum.code in
     let before = held code c.args.self.now.entries in
-    let many : c.checksum-length.result - 0 ≡ checks code = omega (arith, c.checksum-length.ensures) in
-    c.input-row.ensures
+    let many : c.checksum_length.result - 0 ≡ checks code = omega (arith, c.checksum_length.ensures) in
+    c.input_row.ensures
     ∙ ap₂ (λ n x. residue_from F code.lower before (take n (replicate 16 x))) many c.zero-zeros.ensures
     ∙ ap (residue_from F code.lower before) (take_replicate F (checks code) 16 F.𝟘 c.laws.ensures.lawful.few_checks)

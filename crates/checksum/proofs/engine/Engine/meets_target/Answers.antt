@@ -14,13 +14,13 @@ returns-then-ne g c =
     let x = c.index-self-i.result in
     let sixteen = c.args.self.now.sixteen in
     let few = c.laws.ensures.lawful.few_checks in
-    let is-k = c.checksum-length-i-end.ensures in
+    let is-k = c.checksum_length-i-end.ensures in
     let within : i < length entries = omega arith in
     let told = c.ne.ensures in
     let decided = g.met.C.SymbolField.Field.equality _ _ told.0 told.1 in
     let differs = ne_differs c.ne.result told.0 decided told.2 c.if-ne.true in (
       λ e. absurd (false_ne_true e),
-      λ e. absurd (differs (get_or_default entries i x F.𝟘 within ∙ alike_at F (checks code) entries code.target i (omega arith) e ∙ sym c.target-residue.ensures)),
+      λ e. absurd (differs (get_or_default entries i x F.𝟘 within ∙ alike_at F (checks code) entries code.target i (omega arith) e ∙ sym c.target_residue.ensures)),
     )
 
 pub loop-i-preserved : goal.loop-i-preserved
@@ -31,12 +31,12 @@ loop-i-preserved g c =
     let x = c.index-self-i.result in
     let sixteen = c.args.self.now.sixteen in
     let few = c.laws.ensures.lawful.few_checks in
-    let is-k = c.checksum-length-i-end.ensures in
+    let is-k = c.checksum_length-i-end.ensures in
     let within : i < length entries = omega arith in
     let told = c.ne.ensures in
     let decided = g.met.C.SymbolField.Field.equality _ _ told.0 told.1 in
     let same = ne_same c.ne.result told.0 decided told.2 c.if-ne.false in
-    below_more _ _ c.loop-i.invariant (sym (get_or_default entries i x F.𝟘 within) ∙ same ∙ c.target-residue.ensures)
+    below_more _ _ c.loop-i.invariant (sym (get_or_default entries i x F.𝟘 within) ∙ same ∙ c.target_residue.ensures)
 
 pub returns : goal.returns
 returns g c =
@@ -44,7 +44,7 @@ returns g c =
     let code = g.C.Checksum.code in
     let lawful = c.laws.ensures.lawful in
     let entries = c.args.self.now.entries in
-    let is-k = c.checksum-length-i-end.ensures in
+    let is-k = c.checksum_length-i-end.ensures in
     let few = lawful.few_checks in
     let sixteen = c.args.self.now.sixteen in
     let as-target = lawful.target_length in

@@ -10,8 +10,8 @@ returns g c =
     let F = g.C.SymbolField.Field.field in
     let code = g.C.Checksum.code in
     let row = c.args.row.now in
-    let is : held code c.input-row.new.self.entries ≡ residue F code row =
-    c.input-row.ensures ∙ ap (λ r. residue_from F code.lower r row) c.new-engine.ensures in
+    let is : held code c.input_row.new.self.entries ≡ residue F code row =
+    c.input_row.ensures ∙ ap (λ r. residue_from F code.lower r row) c.new-engine.ensures in
     record {
       residue = is;
       remainder = subst (Remainder F code.lower (reverse (F.𝟙 ∷ row))) (sym is) (residue_remainder F code c.laws.ensures.lawful.some_checks row);

@@ -8,7 +8,7 @@ use Rattle.gf32.specs.Gf32.{gf32, fe_path}
 use Rattle.gf32.specs.declared.gf32.Fe32.{Fe32}
 use Rattle.codes.specs.Bech32.{sheet}
 use Rattle.codes.proofs.bech32.Bech32Checksum.generator.Goals as goal
-use Rattle.codes.proofs.bech32.Bech32Checksum.generator.Goals.{in-0, in-1, in-2, in-3, in-4, in-5, in-6, in-default}
+use Rattle.codes.proofs.bech32.Bech32Checksum.generator.Goals.{in-0, in-1, in-2, in-3, in-4, in-5, in-6, in_default}
 
 pub returns : goal.returns
 unfolding sheet gf32
@@ -22,7 +22,7 @@ returns c =
       | in-4 w ↦ fe_path _ _ (ap (λ r. r.0) w.result-is ∙ sym (ap at w.in-4.is))
       | in-5 w ↦ fe_path _ _ (ap (λ r. r.0) w.result-is ∙ sym (ap at w.in-5.is))
       | in-6 w ↦ fe_path _ _ (ap (λ r. r.0) w.result-is ∙ sym (ap at w.in-6.is))
-      | in-default w ↦
+      | in_default w ↦
           let past : 7 ≤ c.args.power = omega arith in
           fe_path _ _ (ap (λ r. r.0) w.result-is ∙ sym (ap (λ (x : Fe32). x.value) (coeff_high gf32 (generator gf32 sheet) c.args.power past)))
     ]

@@ -8,7 +8,7 @@ use Rattle.gf32.specs.Gf32.{gf32, fe_path}
 use Rattle.gf32.specs.declared.gf32.Fe32.{Fe32}
 use Rattle.codes.specs.Finish.{finish}
 use Rattle.codes.proofs.finish.FinishChecksum.generator.Goals as goal
-use Rattle.codes.proofs.finish.FinishChecksum.generator.Goals.{in-0, in-1, in-2, in-3, in-4, in-default}
+use Rattle.codes.proofs.finish.FinishChecksum.generator.Goals.{in-0, in-1, in-2, in-3, in-4, in_default}
 
 pub returns : goal.returns
 unfolding finish gf32
@@ -20,7 +20,7 @@ returns c =
       | in-2 w ↦ fe_path _ _ (ap (λ r. r.0) w.result-is ∙ sym (ap at w.in-2.is))
       | in-3 w ↦ fe_path _ _ (ap (λ r. r.0) w.result-is ∙ sym (ap at w.in-3.is))
       | in-4 w ↦ fe_path _ _ (ap (λ r. r.0) w.result-is ∙ sym (ap at w.in-4.is))
-      | in-default w ↦
+      | in_default w ↦
           let past : 5 ≤ c.args.power = omega arith in
           fe_path _ _ (ap (λ r. r.0) w.result-is ∙ sym (ap (λ (x : Fe32). x.value) (coeff_high gf32 (generator gf32 finish) c.args.power past)))
     ]

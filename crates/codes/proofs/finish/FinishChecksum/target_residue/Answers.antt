@@ -8,7 +8,7 @@ use Rattle.gf32.specs.declared.gf32.Fe32.{Fe32}
 use Rattle.codes.specs.Finish.{finish}
 use Rattle.codes.proofs.Ones.{coeff_one_above}
 use Rattle.codes.proofs.finish.FinishChecksum.target_residue.Goals as goal
-use Rattle.codes.proofs.finish.FinishChecksum.target_residue.Goals.{in-0, in-default}
+use Rattle.codes.proofs.finish.FinishChecksum.target_residue.Goals.{in-0, in_default}
 
 pub returns : goal.returns
 unfolding finish gf32
@@ -16,5 +16,5 @@ returns c =
     let at : ℕ → ℕ = λ n. (coeff gf32 (one gf32 4) n).value in
     elim c.match-power.branch [
       | in-0 w ↦ fe_path _ _ (ap (λ r. r.0) w.result-is ∙ sym (ap at w.in-0.is))
-      | in-default w ↦ fe_path _ _ (ap (λ r. r.0) w.result-is ∙ sym (ap (λ (x : Fe32). x.value) (coeff_one_above gf32 4 c.args.power (λ e. omega arith))))
+      | in_default w ↦ fe_path _ _ (ap (λ r. r.0) w.result-is ∙ sym (ap (λ (x : Fe32). x.value) (coeff_one_above gf32 4 c.args.power (λ e. omega arith))))
     ]

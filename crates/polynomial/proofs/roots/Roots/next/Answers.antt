@@ -18,6 +18,6 @@ returns g c =
     let all : coming F p self ≡ (n - k) ∷ left_over F p self.base n (k - 1) (F.mul self.base x) =
     sym (c.seek-left.ensures.same n) ∙ finds F p self.base n k x some (c.seek-left.ensures.root some) in
     record {
-      answer = ap (λ i. Ok (Some i)) c.saturating-sub.ensures ∙ ap (λ is. Ok (slice_get is 0)) (sym all) ∙ asked_some (length p) (slice_get (coming F p self) 0) given;
+      answer = ap (λ i. Ok (Some i)) c.saturating_sub.ensures ∙ ap (λ is. Ok (slice_get is 0)) (sym all) ∙ asked_some (length p) (slice_get (coming F p self) 0) given;
       rest = stepped F p self _ given (ap (left_over F p self.base n (k - 1)) c.mul-self.ensures ∙ ap (drop 1) (sym all));
     }

@@ -11,6 +11,6 @@ returns g c =
     let s = g.SymbolField.Field.field in
     let code = g.C.Checksum.code in
     let slip = c.args.slip.now in
-    let good = rows_sealed N s g.CorrectionField.Field.field g.CorrectionField.ExtensionField.lifted c.lift-laws.ensures code c.laws.ensures.lawful
+    let good = rows_sealed N s g.CorrectionField.Field.field g.CorrectionField.ExtensionField.lifted c.lift_laws.ensures code c.laws.ensures.lawful
     (row (view slip)) (row_below N.size c.laws.ensures.alphabet slip) in
     sealed N s code (view slip) _ _ good c.seal.ensures.answer c.seal.ensures.book

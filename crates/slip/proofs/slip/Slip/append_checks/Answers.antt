@@ -19,5 +19,5 @@ returns g c =
     c.append.ensures
     ∙ ap (λ vs. b ++ map sure vs)
     (front_seal g.SymbolField.Field.numbers g.SymbolField.Field.field code c.laws.ensures.lawful.target_length
-    (row b) (row b) (held code c.engine.result.entries) c.closing-closing.result c.checksum-length.result
-    c.checksum-length.ensures refl c.engine.ensures c.closing-closing.ensures)
+    (row b) (row b) (held code c.engine.result.entries) c.closing-closing.result c.checksum_length.result
+    c.checksum_length.ensures refl c.engine.ensures c.closing-closing.ensures)

@@ -4,9 +4,9 @@ use Rattle.checksum.proofs.Sizes.{engine_fits}
 use Rattle.slip.specs.Sealing.{elements}
 use Rattle.slip.proofs.slip.Slip.engine.Goals as goal
 
-pub engine-of-requires : goal.engine-of-requires
-engine-of-requires g c = (search (rules, engine_fits), c.symbols.ensures.below)
+pub engine-of-requires : goal.engine_of-requires
+engine_of-requires g c = (search (rules, engine_fits), c.symbols.ensures.below)
 
 pub returns : goal.returns
 returns g c =
-    c.engine-of.ensures ∙ ap (λ vs. residue g.SymbolField.Field.field g.C.Checksum.code (elements g.SymbolField.Field.numbers vs)) c.symbols.ensures.row
+    c.engine_of.ensures ∙ ap (λ vs. residue g.SymbolField.Field.field g.C.Checksum.code (elements g.SymbolField.Field.numbers vs)) c.symbols.ensures.row

@@ -7,15 +7,15 @@ use Rattle.slip.proofs.Places.{length_view}
 use Rattle.slip.proofs.Sealing.{seal_long, seal_held, sealed_book_sound}
 use Rattle.slip.proofs.slip.Slip.seal.Goals as goal
 
-pub returns-then-self-checksum-length : goal.returns-then-self-checksum-length
-returns-then-self-checksum-length g c =
+pub returns-then-self-checksum_length : goal.returns-then-self-checksum_length
+returns-then-self-checksum_length g c =
     let N = g.SymbolField.Field.numbers in
     let F = g.SymbolField.Field.field in
     let code = g.C.Checksum.code in
     let b = view c.args.self.now in
     let l = length_view c.args.self.now in
-    let is-k = c.checksum-length.ensures in
-    let is-limit = c.code-length.ensures in
+    let is-k = c.checksum_length.ensures in
+    let is-limit = c.code_length.ensures in
     let some : 0 < length b = omega arith in
     let above : code.limit < length b + checks code = omega arith in
     let long = seal_long N F code b some above in
@@ -32,13 +32,13 @@ returns g c =
     let code = g.C.Checksum.code in
     let b = view c.args.self.now in
     let l = length_view c.args.self.now in
-    let is-k = c.checksum-length.ensures in
-    let is-limit = c.code-length.ensures in
+    let is-k = c.checksum_length.ensures in
+    let is-limit = c.code_length.ensures in
     let some : 0 < length b = omega arith in
     let within : length b + checks code ≤ code.limit = omega arith in
     let held = seal_held N F code b some within in
     record {
       answer = sym (ap answer held);
-      book = c.append-checks.ensures ∙ sym (ap (after b) held);
-      sound = λ _. subst (λ (d : Book). Sound F code (elements N (row d))) (sym c.append-checks.ensures) (sealed_book_sound N F code c.laws.ensures.lawful.target_length b);
+      book = c.append_checks.ensures ∙ sym (ap (after b) held);
+      sound = λ _. subst (λ (d : Book). Sound F code (elements N (row d))) (sym c.append_checks.ensures) (sealed_book_sound N F code c.laws.ensures.lawful.target_length b);
     }

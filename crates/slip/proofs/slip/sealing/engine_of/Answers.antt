@@ -14,7 +14,7 @@ loop-symbol-preserved g c =
     let i = c.loop-symbol.symbol-index in
     let before = held code c.loop-symbol.engine.entries in
     let rest = elements N (drop (i + 1) row) in
-    ap (λ r. residue_from F code.lower r rest) c.input-fe.ensures
+    ap (λ r. residue_from F code.lower r rest) c.input_fe.ensures
     ∙ ap (λ v. residue_from F code.lower (modulo F code.lower (v ∷ before)) rest) c.element.ensures
     ∙ sym (at_drop_more (λ (xs : List ℕ). residue_from F code.lower before (elements N xs)) row i 0 c.loop-symbol-test.true)
     ∙ c.loop-symbol.invariant

@@ -6,13 +6,13 @@ use Rattle.typed.specs.Pieces.{Part, group, remark, pieces, group_length}
 use Rattle.typed.proofs.Cuts.{no_piece, a_remark, a_group}
 use Rattle.typed.proofs.pieces.Pieces.next.Goals as goal
 
-pub returns-then-is-empty : goal.returns-then-is-empty
-returns-then-is-empty c =
+pub returns-then-is_empty : goal.returns-then-is_empty
+returns-then-is_empty c =
     let line = c.args.self.now.rest.now in
-    let start = c.leading-spaces-start.result in
+    let start = c.leading_spaces-start.result in
     let rest = take (length line - start) (drop start line) in
-    let behind = take_rest line start ∙ ap (λ (i : ℕ). drop i line) c.leading-spaces-start.ensures.value in
-    let empty = eqb-true (length rest) 0 (sym c.is-empty.ensures ∙ c.if-is-empty.true) in
+    let behind = take_rest line start ∙ ap (λ (i : ℕ). drop i line) c.leading_spaces-start.ensures.value in
+    let empty = eqb-true (length rest) 0 (sym c.is_empty.ensures ∙ c.if-is_empty.true) in
     let none = no_piece line rest behind empty in
     record {
       answer = sym (ap (λ ps. slice_get ps 0) none);
@@ -22,10 +22,10 @@ returns-then-is-empty c =
 pub returns-then-rest-eq47 : goal.returns-then-rest-eq47
 returns-then-rest-eq47 c =
     let line = c.args.self.now.rest.now in
-    let start = c.leading-spaces-start.result in
+    let start = c.leading_spaces-start.result in
     let rest = take (length line - start) (drop start line) in
-    let behind = take_rest line start ∙ ap (λ (i : ℕ). drop i line) c.leading-spaces-start.ensures.value in
-    let some = eqb-false (length rest) 0 (sym c.is-empty.ensures ∙ c.if-is-empty.false) in
+    let behind = take_rest line start ∙ ap (λ (i : ℕ). drop i line) c.leading_spaces-start.ensures.value in
+    let some = eqb-false (length rest) 0 (sym c.is_empty.ensures ∙ c.if-is_empty.false) in
     let first = a_remark line rest behind some c.if-rest-eq47.true in
     record {
       answer = ap (λ bytes. Some (remark bytes)) (take_rest rest 1) ∙ sym (ap (λ ps. slice_get ps 0) first);
@@ -35,13 +35,13 @@ returns-then-rest-eq47 c =
 pub returns : goal.returns
 returns c =
     let line = c.args.self.now.rest.now in
-    let start = c.leading-spaces-start.result in
+    let start = c.leading_spaces-start.result in
     let rest = take (length line - start) (drop start line) in
-    let end = c.leading-group-end.result in
-    let behind = take_rest line start ∙ ap (λ (i : ℕ). drop i line) c.leading-spaces-start.ensures.value in
-    let some = eqb-false (length rest) 0 (sym c.is-empty.ensures ∙ c.if-is-empty.false) in
+    let end = c.leading_group-end.result in
+    let behind = take_rest line start ∙ ap (λ (i : ℕ). drop i line) c.leading_spaces-start.ensures.value in
+    let some = eqb-false (length rest) 0 (sym c.is_empty.ensures ∙ c.if-is_empty.false) in
     let first = a_group line rest behind some c.if-rest-eq47.false in
-    let long : end ≡ group_length rest = c.leading-group-end.ensures.value in
+    let long : end ≡ group_length rest = c.leading_group-end.ensures.value in
     let zero : end - 0 ≡ group_length rest = omega arith in
     record {
       answer = ap (λ (k : ℕ). Some (group (take k rest))) zero ∙ sym (ap (λ ps. slice_get ps 0) first);

@@ -12,7 +12,7 @@ returns c =
     let x = c.args.self in
     let log = c.logarithm in
     let ne = c.if-self-eq0.false in
-    let value = c.power-of-t.ensures ∙ power_neg log.result log.ensures.below ∙ ap (λ (a : ℕ). power a 30) (log.ensures.power ne) in
+    let value = c.power_of_t.ensures ∙ power_neg log.result log.ensures.below ∙ ap (λ (a : ℕ). power a 30) (log.ensures.power ne) in
     ap Ok (fe_path _ _ value) ∙ sym (inverse_of_other gf32 x (λ e. ne (ap (λ (y : Fe32). y.value) e)))
 
 pub returns-then-self-eq0 : goal.returns-then-self-eq0

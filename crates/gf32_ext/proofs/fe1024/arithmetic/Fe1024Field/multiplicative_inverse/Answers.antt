@@ -6,18 +6,18 @@ use Rattle.gf32_ext.proofs.Answered.{inverse_ok, ok_inverse, inverse_err}
 use Rattle.gf32_ext.proofs.Inverse1024.{norm, norm_zero, times_conjugate}
 use Rattle.gf32_ext.proofs.fe1024.arithmetic.Fe1024Field.multiplicative_inverse.Goals as goal
 
-pub returns-in-err-scale : goal.returns-in-err-scale
-returns-in-err-scale c =
+pub returns-in_err-scale : goal.returns-in_err-scale
+returns-in_err-scale c =
     let x = c.args.self in
     let is : c.add-norm.result ≡ norm x = cc in
-    let fault = c.in-err-scale.field-0.0 in
+    let fault = c.in_err-scale.field-0.0 in
     let err = err_from_is_err_and c.from-residual.result c.from-residual.ensures.1 in
-    err.1 ∙ ap Err err.2 ∙ sym (inverse_err gf32 gf1024 c.add-norm.result x fault (λ z. norm_zero x (sym is ∙ z)) (sym c.in-err-scale.ensures))
+    err.1 ∙ ap Err err.2 ∙ sym (inverse_err gf32 gf1024 c.add-norm.result x fault (λ z. norm_zero x (sym is ∙ z)) (sym c.in_err-scale.ensures))
 
 pub returns : goal.returns
 returns c =
     let x = c.args.self in
-    let k = c.in-ok-scale.scale in
+    let k = c.in_ok-scale.scale in
     let is : c.add-norm.result ≡ norm x = cc in
-    let one = inverse_ok gf32 c.add-norm.result k (sym c.in-ok-scale.ensures) in
+    let one = inverse_ok gf32 c.add-norm.result k (sym c.in_ok-scale.ensures) in
     ap Ok (ap₂ fe1024 (cc) (cc)) ∙ sym (ok_inverse gf1024 x _ (times_conjugate x k (ap (λ t. gf32.mul t k) (sym is) ∙ one)))

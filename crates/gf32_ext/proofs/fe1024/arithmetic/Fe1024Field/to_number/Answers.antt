@@ -13,4 +13,4 @@ overflow-add-result c = omega arith
 
 pub returns : goal.returns
 unfolding gf1024_numbers
-returns c = ap₂ (λ a b. a + 32 * b) c.to-number.ensures c.to-number-2.ensures
+returns c = ap₂ (λ a b. a + 32 * b) c.to_number.ensures c.to_number-2.ensures
