@@ -22,7 +22,7 @@ def files(folder, ending):
 def main(crates):
     for crate in crates:
         base = os.path.join(ROOT, "crates", crate)
-        words = {"in_ok", "in_err", "in_default", "In_ok", "In_err", "In_default"}
+        words = {"from_residual", "into_iter", "in_ok", "in_err", "in_default", "In_ok", "In_err", "In_default"}
         for path in files(os.path.join(base, "src"), ".rt"):
             with open(path, encoding="utf-8") as f:
                 words |= {w for w in re.findall(r"[A-Za-z][A-Za-z0-9_]*", f.read()) if "_" in w.strip("_")}

@@ -1,6 +1,6 @@
 -- A term of a product as a loop sums it up. Assumes nothing.
 use Rattle.std.proofs.Common.{◌≡◌, ℕ, zero, suc, ◌+◌, ◌-◌, ◌<◌, ◌≤◌, List, [], ◌∷◌, length, get_or, take, sym, refl, ap, ◌∙◌, ap₂, add-one, arith}
-use native.Mathlib.Nat.{suc-sub-suc, sub_zero}
+use native.Mathlib.Nat.{suc-sub-suc, sub-zero}
 use Rattle.std.proofs.lemmas.List.{get_or_default}
 use Rattle.algebra.specs.Field.{FieldOn}
 use Rattle.algebra.specs.Poly.{coeff}
@@ -20,7 +20,7 @@ module _ {A : Type 0} (F : FieldOn A) where
     where
       go : (c : List A) (n i : ℕ) → i < length c → i ≤ n → times F (take (suc i) c) g n ≡ times F (take i c) g n ⊕ coeff F c i ⊗ g (n - i)
       go [] n i h k = absurd (omega arith)
-      go (a ∷ c) n zero h k = ap (λ t. a ⊗ g n ⊕ t) (shift_zero F n) ∙ add_comm (a ⊗ g n) 𝟘 ∙ ap (λ m. 𝟘 ⊕ a ⊗ g m) (sym (sub_zero n))
+      go (a ∷ c) n zero h k = ap (λ t. a ⊗ g n ⊕ t) (shift_zero F n) ∙ add_comm (a ⊗ g n) 𝟘 ∙ ap (λ m. 𝟘 ⊕ a ⊗ g m) (sym (sub-zero n))
       go (a ∷ c) zero (suc i) h k = absurd (omega arith)
       go (a ∷ c) (suc n) (suc i) h k =
           ap (λ t. a ⊗ g (suc n) ⊕ t) (go c n i (omega arith) (omega arith) ∙ ap (λ m. times F (take i c) g n ⊕ coeff F c i ⊗ g m) (sym (suc-sub-suc n i)))

@@ -11,7 +11,7 @@ pub returns-in_err-list_place : goal.returns-in_err-list_place
 returns-in_err-list_place g c =
     let Change = Valued g.E.Field.field g.E.ExtensionField.lifted g.BaseField.Field.numbers c.args.evaluator.now c.args.derivative.now c.args.a c.args.first in
     never_refused c.args.marks.now c.loop-place.place c.loop-place-test.true Change (held c.args.pattern.now) (held c.loop-place.pattern) c.loop-place.invariant
-    c.if-marks-place.true (held c.list_place.new.pattern) c.list_place.result c.list_place.ensures c.in_err-list_place.was (held c.list_place.new.pattern) c.from-residual.result
+    c.if-marks-place.true (held c.list_place.new.pattern) c.list_place.result c.list_place.ensures c.in_err-list_place.was (held c.list_place.new.pattern) c.from_residual.result
 
 pub loop-place-preserved : goal.loop-place-preserved
 loop-place-preserved g c =

@@ -62,9 +62,9 @@ returns-in_err-list_place g c =
     let position = c.position_of-position.result in
     let next = next_first Change len all before hs order left c.loop-index.invariant.1 c.in-Some.index position c.in-Some.ensures.answer c.position_of-position.ensures in
     let after = held c.list_place.new.pattern in
-    for_order F a (λ n. Lists Change len (map (root_position n) (roots F conn a n)) before c.from-residual-in_err-list_place.result after) order c.loop-index.invariant.0
+    for_order F a (λ n. Lists Change len (map (root_position n) (roots F conn a n)) before c.from_residual-in_err-list_place.result after) order c.loop-index.invariant.0
     (never_none Change len all before position (map (root_position order) (drop 1 left)) hs after c.list_place.result next
-    (λ y v. c.list_place.ensures y v.1) c.in_err-list_place.was after c.from-residual-in_err-list_place.result)
+    (λ y v. c.list_place.ensures y v.1) c.in_err-list_place.was after c.from_residual-in_err-list_place.result)
 
 pub loop-index-preserved : goal.loop-index-preserved
 loop-index-preserved g c =

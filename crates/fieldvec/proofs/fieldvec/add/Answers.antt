@@ -13,7 +13,7 @@ returns-in_err-n g c =
     let old = c.args.out.now in
     let size : c.max.result ≡ length (poly_add F p q) = c.max.ensures ∙ sym (length_poly_add_max F p q) in
     record {
-      answer = refuses (min (length p) (length q)) (poly_add F p q) old c.admit.result c.min.result c.max.result c.admit.ensures.answer c.min.ensures size c.in_err-n.field-0.0 c.in_err-n.was c.from-residual.result c.from-residual.ensures.1;
+      answer = refuses (min (length p) (length q)) (poly_add F p q) old c.admit.result c.min.result c.max.result c.admit.ensures.answer c.min.ensures size c.in_err-n.field-0.0 c.in_err-n.was c.from_residual.result c.from_residual.ensures.1;
       answered = refuses_list (min (length p) (length q)) (poly_add F p q) old c.admit.result c.min.result c.max.result c.admit.ensures.answer c.min.ensures size c.in_err-n.field-0.0 c.in_err-n.was;
     }
 

@@ -13,7 +13,7 @@ returns-in_err-n g c =
     let old = c.args.out.now in
     let size : length p ≡ length (map up p) = sym (length-map p up) in
     record {
-      answer = refuses (length p) (map up p) old c.admit.result (length p) (length p) c.admit.ensures.answer refl size c.in_err-n.field-0.0 c.in_err-n.was c.from-residual.result c.from-residual.ensures.1;
+      answer = refuses (length p) (map up p) old c.admit.result (length p) (length p) c.admit.ensures.answer refl size c.in_err-n.field-0.0 c.in_err-n.was c.from_residual.result c.from_residual.ensures.1;
       answered = refuses_list (length p) (map up p) old c.admit.result (length p) (length p) c.admit.ensures.answer refl size c.in_err-n.field-0.0 c.in_err-n.was;
     }
 

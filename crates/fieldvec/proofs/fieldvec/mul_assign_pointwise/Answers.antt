@@ -15,7 +15,7 @@ returns-in_err-n g c =
     let old = c.args.list.now in
     let size : length p ≡ length (pointwise F p q) = sym (length_tab (length p) (λ i. F.mul (coeff F p i) (coeff F q i))) in
     record {
-      answer = refuses (min (length p) (length q)) (pointwise F p q) old c.admit.result c.min.result (length p) c.admit.ensures.answer c.min.ensures size c.in_err-n.field-0.0 c.in_err-n.was c.from-residual.result c.from-residual.ensures.1;
+      answer = refuses (min (length p) (length q)) (pointwise F p q) old c.admit.result c.min.result (length p) c.admit.ensures.answer c.min.ensures size c.in_err-n.field-0.0 c.in_err-n.was c.from_residual.result c.from_residual.ensures.1;
       answered = refuses_list (min (length p) (length q)) (pointwise F p q) old c.admit.result c.min.result (length p) c.admit.ensures.answer c.min.ensures size c.in_err-n.field-0.0 c.in_err-n.was;
     }
 

@@ -11,7 +11,7 @@ use Rattle.hut_lines.proofs.lines.finish.Goals as goal
 pub returns-in_err-take_line : goal.returns-in_err-take_line
 returns-in_err-take_line c =
     let line = c.args.line.now in
-    let p = err_from_is_err_and c.from-residual.result c.from-residual.ensures.1 in
+    let p = err_from_is_err_and c.from_residual.result c.from_residual.ensures.1 in
     rw (p.1, p.2) (only_refused finish_rows line _ (refused (take_line true line) _ c.in_err-take_line.ensures.answer))
 
 pub returns-in-Refused : goal.returns-in-Refused
@@ -34,7 +34,7 @@ returns-in_err-sail c =
     let taken = accepted (take_line true line) b told.answer told.book in
     let settled = c.in-Listed.ensures in
     let is_row = c.symbols.ensures.row ∙ ap row (only_slip c.settle.new.slips _ c.settle.array_long) in
-    let p = err_from_is_err_and c.from-residual-in_err-sail.result c.from-residual-in_err-sail.ensures.1 in
+    let p = err_from_is_err_and c.from_residual-in_err-sail.result c.from_residual-in_err-sail.ensures.1 in
     rw (p.1, p.2) (only_unread finish_rows settled.decided line b taken settled.follows _ is_row _ c.in_err-sail.ensures)
 
 pub returns : goal.returns

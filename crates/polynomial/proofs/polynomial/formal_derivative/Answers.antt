@@ -15,7 +15,7 @@ returns-in_err-n g c =
     let old = c.args.out.now in
     let size : c.top_power.result ≡ length (derivative F p) = c.top_power.ensures ∙ sym (length_tab (degree F p) (λ i. multiple F (coeff F p (suc i)) (suc i))) in
     record {
-      answer = refuses (length p) (derivative F p) old c.admit.result (length p) c.top_power.result c.admit.ensures.answer refl size c.in_err-n.field-0.0 c.in_err-n.was c.from-residual.result c.from-residual.ensures.1;
+      answer = refuses (length p) (derivative F p) old c.admit.result (length p) c.top_power.result c.admit.ensures.answer refl size c.in_err-n.field-0.0 c.in_err-n.was c.from_residual.result c.from_residual.ensures.1;
       answered = refuses_list (length p) (derivative F p) old c.admit.result (length p) c.top_power.result c.admit.ensures.answer refl size c.in_err-n.field-0.0 c.in_err-n.was;
     }
 

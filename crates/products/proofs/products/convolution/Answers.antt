@@ -15,7 +15,7 @@ returns-in_err-n g c =
     let many : c.saturating_sub-terms.result ≡ length s - degree F p = c.saturating_sub-terms.ensures ∙ ap (λ k. length s - k) c.top_power-power.ensures in
     let size : c.max.result ≡ length (convolved F p s) = c.max.ensures ∙ ap (λ n. max n 1) many ∙ length_some_terms F (length s - degree F p) (λ j. times F p (coeff F s) (degree F p + j)) in
     record {
-      answer = refuses (length p) (convolved F p s) old c.admit.result (length p) c.max.result c.admit.ensures.answer refl size c.in_err-n.field-0.0 c.in_err-n.was c.from-residual.result c.from-residual.ensures.1;
+      answer = refuses (length p) (convolved F p s) old c.admit.result (length p) c.max.result c.admit.ensures.answer refl size c.in_err-n.field-0.0 c.in_err-n.was c.from_residual.result c.from_residual.ensures.1;
       answered = refuses_list (length p) (convolved F p s) old c.admit.result (length p) c.max.result c.admit.ensures.answer refl size c.in_err-n.field-0.0 c.in_err-n.was;
     }
 

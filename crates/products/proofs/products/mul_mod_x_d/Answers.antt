@@ -17,7 +17,7 @@ returns-in_err-n g c =
     let cut : c.min-2.result ≡ min d (degree F p + degree F q + 2) = omega arith in
     let size : c.min-2.result ≡ length (product F p q d) = cut ∙ sym (length_tab (min d (degree F p + degree F q + 2)) (times F p (coeff F q))) in
     record {
-      answer = refuses (min (length p) (length q)) (product F p q d) old c.admit.result c.min.result c.min-2.result c.admit.ensures.answer c.min.ensures size c.in_err-n.field-0.0 c.in_err-n.was c.from-residual.result c.from-residual.ensures.1;
+      answer = refuses (min (length p) (length q)) (product F p q d) old c.admit.result c.min.result c.min-2.result c.admit.ensures.answer c.min.ensures size c.in_err-n.field-0.0 c.in_err-n.was c.from_residual.result c.from_residual.ensures.1;
       answered = refuses_list (min (length p) (length q)) (product F p q d) old c.admit.result c.min.result c.min-2.result c.admit.ensures.answer c.min.ensures size c.in_err-n.field-0.0 c.in_err-n.was;
     }
 

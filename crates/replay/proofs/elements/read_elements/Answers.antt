@@ -8,7 +8,7 @@ use Rattle.replay.proofs.elements.read_elements.Goals as goal
 
 pub loop-part-init : goal.loop-part-init
 loop-part-init g c =
-    let start = c.into-iter-part-iterator.result in
+    let start = c.into_iter-part-iterator.result in
     let live : split_has_more start ≡ true = cc in
     (record { readable = tt; meant = cc; others = coming_live (split_has_more start) (split_text start) live }, cc)
 
@@ -23,7 +23,7 @@ loop-part-preserved g c =
     let read = c.in_ok-read_element.ensures in (
       read_more
           g.F.Field.numbers
-          (split_text c.into-iter-part-iterator.result)
+          (split_text c.into_iter-part-iterator.result)
           c.loop-part.yielded
           (split_pattern now)
           (split_text now)
@@ -47,7 +47,7 @@ loop-part-preserved g c =
 pub returns : goal.returns
 returns g c =
     let now = c.loop-part.part-iterator in
-    let start = c.into-iter-part-iterator.result in
+    let start = c.into_iter-part-iterator.result in
     let text = c.args.text.now in
     let whole : split_text start ≡ text = cc in
     read_all

@@ -8,7 +8,7 @@ use Rattle.sheet.proofs.taking.take_groups.Goals as goal
 
 pub returns-in_err-take_byte : goal.returns-in_err-take_byte
 returns-in_err-take_byte c =
-    let p = err_from_is_err_and c.from-residual.result c.from-residual.ensures.1 in
+    let p = err_from_is_err_and c.from_residual.result c.from_residual.ensures.1 in
     rw (p.1, p.2)
     (bad_byte c.args.blanks c.args.case c.args.groups.now c.loop-place.place (view c.loop-place.slip) c.loop-place-test.true _ _ c.loop-place.invariant
     c.in_err-take_byte.ensures)

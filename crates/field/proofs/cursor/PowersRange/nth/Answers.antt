@@ -7,7 +7,7 @@ returns-in_err-self g c =
     let F = g.F.Field.field in
     let r = c.args.self.now in
     record {
-      answer = c.from-residual.ensures ∙ answer_none F r c.in_err-self.was c.args.n;
+      answer = c.from_residual.ensures ∙ answer_none F r c.in_err-self.was c.args.n;
       rest = rest_none F r c.in_err-self.was (c.args.n + 1);
     }
 

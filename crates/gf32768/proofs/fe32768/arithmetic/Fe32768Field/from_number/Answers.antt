@@ -18,7 +18,7 @@ unfolding gf32_numbers gf32768_numbers
 returns-in_err-c2 c =
     let n = c.args.number in
     let large : ¬ (n / 1024 < 32) = numbered_none gf32_numbers (n / 1024) (sym c.in_err-c2.ensures) in
-    c.from-residual-in_err-c2.ensures ∙ sym (numbered_above gf32768_numbers n (λ h. large (omega arith)))
+    c.from_residual-in_err-c2.ensures ∙ sym (numbered_above gf32768_numbers n (λ h. large (omega arith)))
 
 pub returns : goal.returns
 unfolding gf32_numbers gf32768_numbers

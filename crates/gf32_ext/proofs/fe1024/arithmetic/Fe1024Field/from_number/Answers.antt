@@ -14,7 +14,7 @@ unfolding gf32_numbers gf1024_numbers
 returns-in_err-c1 c =
     let n = c.args.number in
     let large : ¬ (n / 32 < 32) = numbered_none gf32_numbers (n / 32) (sym c.in_err-c1.ensures) in
-    c.from-residual-in_err-c1.ensures ∙ sym (numbered_above gf1024_numbers n (λ h. large (omega arith)))
+    c.from_residual-in_err-c1.ensures ∙ sym (numbered_above gf1024_numbers n (λ h. large (omega arith)))
 
 pub returns : goal.returns
 unfolding gf32_numbers gf1024_numbers

@@ -11,7 +11,7 @@ returns-in_err-scale c =
     let x = c.args.self in
     let is : c.add-norm.result ≡ norm x = cc in
     let fault = c.in_err-scale.field-0.0 in
-    let err = err_from_is_err_and c.from-residual.result c.from-residual.ensures.1 in
+    let err = err_from_is_err_and c.from_residual.result c.from_residual.ensures.1 in
     err.1 ∙ ap Err err.2 ∙ sym (inverse_err gf32 gf1024 c.add-norm.result x fault (λ z. norm_zero x (sym is ∙ z)) (sym c.in_err-scale.ensures))
 
 pub returns : goal.returns
