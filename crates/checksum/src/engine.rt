@@ -73,7 +73,7 @@ impl<C: Checksum> Engine<C> {
 
     /// Whether the residue is the code's target.
     pub fn meets_target(&self) -> bool
-        ensures { Decides result (held C-as-Checksum.code self.now.entries ≡ C-as-Checksum.code.target) }
+        ensures { Decides result (held C.Checksum.code self.now.entries ≡ C.Checksum.code.target) }
     {
         C::laws();
         for i in 0..C::checksum_length() {
@@ -85,7 +85,7 @@ impl<C: Checksum> Engine<C> {
     }
 
     fn input_zeros(&mut self)
-        ensures { held C-as-Checksum.code self.new.entries ≡ residue_from C.SymbolField.Field.field C-as-Checksum.code.lower (held C-as-Checksum.code self.old.entries) (replicate (checks C-as-Checksum.code) C.SymbolField.Field.field.𝟘) }
+        ensures { held C.Checksum.code self.new.entries ≡ residue_from C.SymbolField.Field.field C.Checksum.code.lower (held C.Checksum.code self.old.entries) (replicate (checks C.Checksum.code) C.SymbolField.Field.field.𝟘) }
     {
         C::laws();
         C::SymbolField::small();
@@ -96,7 +96,7 @@ impl<C: Checksum> Engine<C> {
 
     // What the residue lacks to the target, highest power first.
     fn missing(&self) -> [C::SymbolField; 16]
-        ensures { result ≡ padded C.SymbolField.Field.field (reverse (poly_sub C.SymbolField.Field.field C-as-Checksum.code.target (held C-as-Checksum.code self.now.entries))) }
+        ensures { result ≡ padded C.SymbolField.Field.field (reverse (poly_sub C.SymbolField.Field.field C.Checksum.code.target (held C.Checksum.code self.now.entries))) }
     {
         C::laws();
         let k = C::checksum_length();
@@ -110,7 +110,7 @@ impl<C: Checksum> Engine<C> {
 
     /// The k symbols that take the residue to the target, in the order of writing, with ZEROs past them.
     pub fn closing(mut self) -> [C::SymbolField; 16]
-        ensures { result ≡ padded C.SymbolField.Field.field (closing C.SymbolField.Field.field C-as-Checksum.code (held C-as-Checksum.code self.entries)) }
+        ensures { result ≡ padded C.SymbolField.Field.field (closing C.SymbolField.Field.field C.Checksum.code (held C.Checksum.code self.entries)) }
     {
         self.input_zeros();
         self.missing()

@@ -23,7 +23,7 @@ use slip::slip::Slip;
 /// none is, they may be anything, so a proposal is to be checked. The working list has 12 × (bound + 2) entries at least: it is
 /// cut into parts from its front, which are lent on, and is all ZERO after. Nothing is proposed where it is shorter.
 pub fn bch_errors<C: Checksum>(slip: &Slip, work: &mut [C::CorrectionField]) -> Option<Pattern>
-    ensures proposes { Proposes (rows_of SymbolField-as-Field.numbers SymbolField-as-Field.field C.Checksum.code) (view slip.now) (length work.old) result }
+    ensures proposes { Proposes (rows_of C.SymbolField.Field.numbers C.SymbolField.Field.field C.Checksum.code) (view slip.now) (length work.old) result }
     ensures after { work.new ≡ worked C.CorrectionField.Field.field (bound C.Checksum.code) work.old }
 {
     C::laws();
@@ -57,9 +57,9 @@ fn in_parts<E: ExtensionField>(
     rest: &mut [E],
 ) -> Option<Pattern>
     requires given { (doubts ≡ count marks.now) × ((1 ≤ length s.now) × ((length s.now ≤ 16) × ((a ≢ E.Field.field.𝟘)))) }
-    requires small { (first ≤ 65535) × ((length marks.now ≤ 89) × (BaseField-as-Field.numbers.size ≡ 32)) }
+    requires small { (first ≤ 65535) × ((length marks.now ≤ 89) × (E.BaseField.Field.numbers.size ≡ 32)) }
     requires room { 8 * (length s.now + 2) ≤ length rest.old }
-    ensures { Tells E.Field.field lifted BaseField-as-Field.numbers s.now marks.now a first result }
+    ensures { Tells E.Field.field E.lifted E.BaseField.Field.numbers s.now marks.now a first result }
 {
     let part = s.len() + 2;
     let (gamma, rest) = rest.split_at_mut(part);
@@ -89,9 +89,9 @@ fn propose<E: ExtensionField>(
     derivative: &mut [E],
 ) -> Option<Pattern>
     requires given { (doubts ≡ count marks.now) × ((1 ≤ length s.now) × ((length s.now ≤ 16) × ((a ≢ E.Field.field.𝟘)))) }
-    requires small { (first ≤ 65535) × ((length marks.now ≤ 89) × (BaseField-as-Field.numbers.size ≡ 32)) }
+    requires small { (first ≤ 65535) × ((length marks.now ≤ 89) × (E.BaseField.Field.numbers.size ≡ 32)) }
     requires room { Room (length s.now) (length gamma.old) (length folded.old) (length conn.old) (length second.old) (length errata.old) (length evaluator.old) (length derivative.old) }
-    ensures { Tells E.Field.field lifted BaseField-as-Field.numbers s.now marks.now a first result }
+    ensures { Tells E.Field.field E.lifted E.BaseField.Field.numbers s.now marks.now a first result }
 {
     if doubts > s.len() {
         return None;

@@ -12,7 +12,7 @@ use polynomial::polynomial::evaluate;
 // x to a power.
 fn power<F: Field>(x: F, n: usize) -> Option<F>
     requires { n ≤ 65535 }
-    ensures { result ≡ Some (pow field x n) }
+    ensures { result ≡ Some (pow F.field x n) }
 {
     powi(x, n as i64).ok()
 }
@@ -30,8 +30,8 @@ pub(crate) fn error_value<F: Field>(
     x: F,
     first: usize,
 ) -> Option<F>
-    requires { ((x ≢ field.𝟘)) × ((first ≤ 65535) × (0 < length evaluator.now)) }
-    ensures { (eval field derivative.now (field.inv x) ≢ field.𝟘) → result ≡ Some (forney field evaluator.now derivative.now x first) }
+    requires { ((x ≢ F.field.𝟘)) × ((first ≤ 65535) × (0 < length evaluator.now)) }
+    ensures { (eval F.field derivative.now (F.field.inv x) ≢ F.field.𝟘) → result ≡ Some (forney F.field evaluator.now derivative.now x first) }
 {
     let back = x.multiplicative_inverse().ok()?;
     let value = evaluate(evaluator, back).ok()?;
@@ -47,8 +47,8 @@ pub(crate) fn change_at<E: ExtensionField>(
     first: usize,
     position: usize,
 ) -> Option<u8>
-    requires { ((a ≢ E.Field.field.𝟘)) × ((first ≤ 65535) × ((position ≤ 65535) × ((0 < length evaluator.now) × (BaseField-as-Field.numbers.size ≡ 32)))) }
-    ensures { (y : ℕ) → Valued E.Field.field lifted BaseField-as-Field.numbers evaluator.now derivative.now a first position y → result ≡ Some y }
+    requires { ((a ≢ E.Field.field.𝟘)) × ((first ≤ 65535) × ((position ≤ 65535) × ((0 < length evaluator.now) × (E.BaseField.Field.numbers.size ≡ 32)))) }
+    ensures { (y : ℕ) → Valued E.Field.field E.lifted E.BaseField.Field.numbers evaluator.now derivative.now a first position y → result ≡ Some y }
 {
     E::lift_laws();
     let value = error_value(evaluator, derivative, power(a, position)?, first)?;

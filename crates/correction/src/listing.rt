@@ -27,8 +27,8 @@ fn list_place<E: ExtensionField>(
     first: usize,
     pattern: &mut Pattern,
 ) -> Option<()>
-    requires { ((a ≢ E.Field.field.𝟘)) × ((first ≤ 65535) × ((position ≤ 65535) × ((0 < length evaluator.now) × (BaseField-as-Field.numbers.size ≡ 32)))) }
-    ensures { (y : ℕ) → Valued E.Field.field lifted BaseField-as-Field.numbers evaluator.now derivative.now a first position y → Added record { place = place; change = y } (held pattern.old) result (held pattern.new) }
+    requires { ((a ≢ E.Field.field.𝟘)) × ((first ≤ 65535) × ((position ≤ 65535) × ((0 < length evaluator.now) × (E.BaseField.Field.numbers.size ≡ 32)))) }
+    ensures { (y : ℕ) → Valued E.Field.field E.lifted E.BaseField.Field.numbers evaluator.now derivative.now a first position y → Added record { place = place; change = y } (held pattern.old) result (held pattern.new) }
 {
     let change = change_at(evaluator, derivative, a, first, position)?;
     pattern.push(Record { place, change })
@@ -43,8 +43,8 @@ pub(crate) fn list_erasures<E: ExtensionField>(
     first: usize,
     pattern: &mut Pattern,
 ) -> Option<()>
-    requires { ((a ≢ E.Field.field.𝟘)) × ((first ≤ 65535) × ((length marks.now ≤ 65535) × ((0 < length evaluator.now) × (BaseField-as-Field.numbers.size ≡ 32)))) }
-    ensures { Lists (Valued E.Field.field lifted BaseField-as-Field.numbers evaluator.now derivative.now a first) (length marks.now) (positions marks.now) (held pattern.old) result (held pattern.new) }
+    requires { ((a ≢ E.Field.field.𝟘)) × ((first ≤ 65535) × ((length marks.now ≤ 65535) × ((0 < length evaluator.now) × (E.BaseField.Field.numbers.size ≡ 32)))) }
+    ensures { Lists (Valued E.Field.field E.lifted E.BaseField.Field.numbers evaluator.now derivative.now a first) (length marks.now) (positions marks.now) (held pattern.old) result (held pattern.new) }
 {
     for place in 0..marks.len() {
         if marks[place] {
@@ -75,8 +75,8 @@ fn position_of(index: usize, order: usize) -> usize
 // The next root of a list that has entries.
 fn next_root<F: Field>(roots: &mut Roots<F>, list: &[F]) -> Option<usize>
     requires { 0 < length list.now }
-    ensures answer { result ≡ item (coming field list.now roots.old) 0 }
-    ensures rest { coming field list.now roots.new ≡ drop 1 (coming field list.now roots.old) }
+    ensures answer { result ≡ item (coming F.field list.now roots.old) 0 }
+    ensures rest { coming F.field list.now roots.new ≡ drop 1 (coming F.field list.now roots.old) }
 {
     roots.next(list).ok()?
 }
@@ -91,8 +91,8 @@ pub(crate) fn list_errors<E: ExtensionField>(
     first: usize,
     pattern: &mut Pattern,
 ) -> Option<()>
-    requires { ((a ≢ E.Field.field.𝟘)) × ((first ≤ 65535) × ((len ≤ 65535) × (((0 < length conn.now) × (0 < length evaluator.now)) × (BaseField-as-Field.numbers.size ≡ 32)))) }
-    ensures { (ord : ℕ) → HasOrder E.Field.field a ord → Lists (OnRow len (Valued E.Field.field lifted BaseField-as-Field.numbers evaluator.now derivative.now a first)) len (map (root_position ord) (rootIndices E.Field.field conn.now a ord)) (held pattern.old) result (held pattern.new) }
+    requires { ((a ≢ E.Field.field.𝟘)) × ((first ≤ 65535) × ((len ≤ 65535) × (((0 < length conn.now) × (0 < length evaluator.now)) × (E.BaseField.Field.numbers.size ≡ 32)))) }
+    ensures { (ord : ℕ) → HasOrder E.Field.field a ord → Lists (OnRow len (Valued E.Field.field E.lifted E.BaseField.Field.numbers evaluator.now derivative.now a first)) len (map (root_position ord) (rootIndices E.Field.field conn.now a ord)) (held pattern.old) result (held pattern.new) }
 {
     let order = multiplicative_order(a).ok()?;
     let mut roots = find_nonzero_distinct_roots(a).ok()?;

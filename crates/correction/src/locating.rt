@@ -27,7 +27,7 @@ pub(crate) struct Found {
 // The list at the front, of a given length, times 1 - x z.
 fn times_linear<F: Field>(list: &mut [F], len: usize, x: F)
     requires { len < length list.old }
-    ensures { list.new ≡ lin field x (take len list.old) ++ drop (len + 1) list.old }
+    ensures { list.new ≡ lin F.field x (take len list.old) ++ drop (len + 1) list.old }
 {
     let mut below = F::zero();
     for i in 0..len {
@@ -42,7 +42,7 @@ fn times_linear<F: Field>(list: &mut [F], len: usize, x: F)
 fn erasure_locator<F: Field>(marks: &[bool], a: F, list: &mut [F]) -> usize
     requires { count marks.now < length list.old }
     ensures size { result ≡ count marks.now + 1 }
-    ensures list { list.new ≡ locator field (pow field a) (positions marks.now) ++ drop (count marks.now + 1) list.old }
+    ensures list { list.new ≡ locator F.field (pow F.field a) (positions marks.now) ++ drop (count marks.now + 1) list.old }
 {
     list[0] = F::one();
     let mut len = 1;
@@ -79,10 +79,10 @@ fn locators<F: Field>(
     conn: &mut [F],
     second: &mut [F],
 ) -> (usize, usize)
-    requires given { (count marks.now ≤ length s.now) × ((1 ≤ length s.now) × ((length s.now ≤ 16) × ((a ≢ field.𝟘)))) }
+    requires given { (count marks.now ≤ length s.now) × ((1 ≤ length s.now) × ((length s.now ≤ 16) × ((a ≢ F.field.𝟘)))) }
     requires room { (length s.now + 2 ≤ length gamma.old) × ((length s.now + 2 ≤ length folded.old) × ((length s.now + 2 ≤ length conn.old) × (2 * (length s.now + 2) ≤ length second.old))) }
-    ensures erasures { take result.0 gamma.new ≡ locator field (pow field a) (positions marks.now) }
-    ensures errors { take result.1 conn.new ≡ error_locator field (pow field a) (positions marks.now) (coeff field s.now) (length s.now) }
+    ensures erasures { take result.0 gamma.new ≡ locator F.field (pow F.field a) (positions marks.now) }
+    ensures errors { take result.1 conn.new ≡ error_locator F.field (pow F.field a) (positions marks.now) (coeff F.field s.now) (length s.now) }
     ensures sizes { (result.0 ≤ length gamma.old) × ((result.1 ≤ length conn.old) × (0 < result.1)) }
 {
     let erasures = erasure_locator(marks, a, gamma);
@@ -105,11 +105,11 @@ pub(crate) fn locate<F: Field>(
     evaluator: &mut [F],
     derivative: &mut [F],
 ) -> Found
-    requires given { (count marks.now ≤ length s.now) × ((1 ≤ length s.now) × ((length s.now ≤ 16) × ((a ≢ field.𝟘)))) }
+    requires given { (count marks.now ≤ length s.now) × ((1 ≤ length s.now) × ((length s.now ≤ 16) × ((a ≢ F.field.𝟘)))) }
     requires room { Room (length s.now) (length gamma.old) (length folded.old) (length conn.old) (length second.old) (length errata.old) (length evaluator.old) (length derivative.old) }
-    ensures errors { take result.errors conn.new ≡ error_locator field (pow field a) (positions marks.now) (coeff field s.now) (length s.now) }
-    ensures evaluator { (x : F) → eval field (take result.evaluator evaluator.new) x ≡ eval field (errata_evaluator field (pow field a) (positions marks.now) (coeff field s.now) (length s.now)) x }
-    ensures slopes { (x : F) → eval field (take result.derivative derivative.new) x ≡ eval field (deriv field (errata_locator field (pow field a) (positions marks.now) (coeff field s.now) (length s.now))) x }
+    ensures errors { take result.errors conn.new ≡ error_locator F.field (pow F.field a) (positions marks.now) (coeff F.field s.now) (length s.now) }
+    ensures evaluator { (x : F) → eval F.field (take result.evaluator evaluator.new) x ≡ eval F.field (errata_evaluator F.field (pow F.field a) (positions marks.now) (coeff F.field s.now) (length s.now)) x }
+    ensures slopes { (x : F) → eval F.field (take result.derivative derivative.new) x ≡ eval F.field (deriv F.field (errata_locator F.field (pow F.field a) (positions marks.now) (coeff F.field s.now) (length s.now))) x }
     ensures sizes { (result.errors ≤ length conn.old) × ((result.evaluator ≤ length evaluator.old) × (result.derivative ≤ length derivative.old)) }
     ensures some { (0 < result.errors) × (0 < result.evaluator) }
 {

@@ -20,7 +20,7 @@ use slip::slip::Slip;
 // The value at x of a list that has an entry.
 fn value_at<E: ExtensionField>(list: &[E::BaseField], x: E) -> E
     requires { 0 < length list.now }
-    ensures { result ≡ eval E.Field.field (map lifted list.now) x }
+    ensures { result ≡ eval E.Field.field (map E.lifted list.now) x }
 {
     match evaluate_lifted(list, x) {
         Ok(value) => value,
@@ -37,7 +37,7 @@ fn values_at_powers<E: ExtensionField>(
     out: &mut [E],
 )
     requires { (0 < length list.now) × (n ≤ length out.old) }
-    ensures { out.new ≡ tab n (λ j. eval E.Field.field (map lifted list.now) (pow E.Field.field a (first + j))) ++ drop n out.old }
+    ensures { out.new ≡ tab n (λ j. eval E.Field.field (map E.lifted list.now) (pow E.Field.field a (first + j))) ++ drop n out.old }
 {
     let mut power = powers(a).nth(first);
     for j in 0..n {
@@ -64,7 +64,7 @@ fn residue_error<C: Checksum>(slip: &Slip) -> [C::SymbolField; 16]
 // The syndromes of a slip's row, as many as the bound, at the front of a list.
 pub(crate) fn syndromes<C: Checksum>(slip: &Slip, out: &mut [C::CorrectionField])
     requires { bound C.Checksum.code ≤ length out.old }
-    ensures { out.new ≡ tab (bound C.Checksum.code) (syndrome SymbolField-as-Field.field C.CorrectionField.Field.field C.CorrectionField.ExtensionField.lifted C.Checksum.code (elements SymbolField-as-Field.numbers (row (view slip.now)))) ++ drop (bound C.Checksum.code) out.old }
+    ensures { out.new ≡ tab (bound C.Checksum.code) (syndrome C.SymbolField.Field.field C.CorrectionField.Field.field C.CorrectionField.ExtensionField.lifted C.Checksum.code (elements C.SymbolField.Field.numbers (row (view slip.now)))) ++ drop (bound C.Checksum.code) out.old }
 {
     C::laws();
     C::SymbolField::small();

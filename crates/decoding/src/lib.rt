@@ -8,7 +8,7 @@ use field::field::ExtensionField;
 /// At each root of the generator polynomial, the residue of a row less the target is the value of the row's changes from
 /// any sound row of its length.
 pub fn syndromes_stand<C: Checksum>()
-    ensures { SyndromesOfChanges SymbolField-as-Field.field CorrectionField-as-Field.field CorrectionField-as-ExtensionField.lifted C.Checksum.code }
+    ensures { SyndromesOfChanges C.SymbolField.Field.field C.CorrectionField.Field.field C.CorrectionField.ExtensionField.lifted C.Checksum.code }
 {
     C::laws();
     C::CorrectionField::lift_laws();
@@ -16,7 +16,7 @@ pub fn syndromes_stand<C: Checksum>()
 
 /// Two different sound rows of one length within the limit differ in at least bound + 1 places.
 pub fn distance_stands<C: Checksum>()
-    ensures { Distance SymbolField-as-Field.field CorrectionField-as-Field.field CorrectionField-as-ExtensionField.lifted C.Checksum.code }
+    ensures { Distance C.SymbolField.Field.field C.CorrectionField.Field.field C.CorrectionField.ExtensionField.lifted C.Checksum.code }
 {
     C::laws();
     C::CorrectionField::lift_laws();
@@ -24,7 +24,7 @@ pub fn distance_stands<C: Checksum>()
 
 /// Within the limit at most one sound row is so near that twice the errors and the doubted places are within the bound.
 pub fn one_near_stands<C: Checksum>()
-    ensures { OneNear SymbolField-as-Field.field CorrectionField-as-Field.field CorrectionField-as-ExtensionField.lifted C.Checksum.code }
+    ensures { OneNear C.SymbolField.Field.field C.CorrectionField.Field.field C.CorrectionField.ExtensionField.lifted C.Checksum.code }
 {
     C::laws();
     C::CorrectionField::lift_laws();
@@ -32,7 +32,7 @@ pub fn one_near_stands<C: Checksum>()
 
 /// Where one more place is doubted, no other row than before is near.
 pub fn one_more_doubt_stands<C: Checksum>()
-    ensures { OneMoreDoubt SymbolField-as-Field.field CorrectionField-as-Field.field CorrectionField-as-ExtensionField.lifted C.Checksum.code }
+    ensures { OneMoreDoubt C.SymbolField.Field.field C.CorrectionField.Field.field C.CorrectionField.ExtensionField.lifted C.Checksum.code }
 {
     C::laws();
     C::CorrectionField::lift_laws();
@@ -40,7 +40,7 @@ pub fn one_more_doubt_stands<C: Checksum>()
 
 /// Where a row is near, the register's connection list, its roots and Forney's values are that row's errors and changes.
 pub fn mending_stands<C: Checksum>()
-    ensures { Mends SymbolField-as-Field.field CorrectionField-as-Field.field CorrectionField-as-ExtensionField.lifted C.Checksum.code }
+    ensures { Mends C.SymbolField.Field.field C.CorrectionField.Field.field C.CorrectionField.ExtensionField.lifted C.Checksum.code }
 {
     C::laws();
     C::CorrectionField::lift_laws();

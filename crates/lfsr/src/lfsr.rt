@@ -34,7 +34,7 @@ fn move_down<F: Field>(w: &mut [F], m: usize, k: usize)
 // Takes c times the old list, moved up by x, off the connection list.
 fn subtract_shifted<F: Field>(conn: &mut [F], old: &[F], c: F, x: usize)
     requires { length old.now + x ≤ length conn.old }
-    ensures { conn.new ≡ change field conn.old c x old.now }
+    ensures { conn.new ≡ change F.field conn.old c x old.now }
 {
     for i in 0..old.len() {
         conn[i + x] = difference(conn[i + x], c.mul(old[i]));
@@ -44,7 +44,7 @@ fn subtract_shifted<F: Field>(conn: &mut [F], old: &[F], c: F, x: usize)
 // Step 4: the connection list is corrected at its length.
 fn adjust<F: Field>(conn: &mut [F], old: &[F], len: usize, old_len: usize, c: F, x: usize)
     requires { (len ≤ length conn.old) × ((old_len ≤ length old.now) × (old_len + x ≤ len)) }
-    ensures { conn.new ≡ change field (take len conn.old) c x (take old_len old.now) ++ drop len conn.old }
+    ensures { conn.new ≡ change F.field (take len conn.old) c x (take old_len old.now) ++ drop len conn.old }
 {
     subtract_shifted(&mut conn[..len], &old[..old_len], c, x);
 }
@@ -52,7 +52,7 @@ fn adjust<F: Field>(conn: &mut [F], old: &[F], len: usize, old_len: usize, c: F,
 // Step 5: it is corrected and grows, and as it was it becomes the old one.
 fn grow<F: Field>(conn: &mut [F], w: &mut [F], m: usize, len: usize, old_len: usize, c: F, x: usize)
     requires { (len ≤ old_len + x) × ((old_len + x ≤ m) × ((m ≤ length conn.old) × (m + m ≤ length w.old))) }
-    ensures list { conn.new ≡ change field (take len conn.old) c x (take old_len w.old) ++ drop (old_len + x) conn.old }
+    ensures list { conn.new ≡ change F.field (take len conn.old) c x (take old_len w.old) ++ drop (old_len + x) conn.old }
     ensures old { take len w.new ≡ take len conn.old }
 {
     put_front(&mut w[m..], &conn[..len]);
@@ -64,8 +64,8 @@ fn grow<F: Field>(conn: &mut [F], w: &mut [F], m: usize, len: usize, old_len: us
 // The six steps over the terms s, of which there may be none; it answers the connection list's length.
 pub(crate) fn run<F: Field>(s: &[F], conn: &mut [F], w: &mut [F]) -> usize
     requires { (length s.now < length conn.old) × (length s.now + length s.now + 2 ≤ length w.old) }
-    ensures size { result ≡ length (connection field s.now) }
-    ensures list { conn.new ≡ connection field s.now ++ drop result conn.old }
+    ensures size { result ≡ length (connection F.field s.now) }
+    ensures list { conn.new ≡ connection F.field s.now ++ drop result conn.old }
     ensures some { 0 < result }
     ensures short { result ≤ length s.now + 1 }
 {
@@ -107,10 +107,10 @@ pub fn berlekamp_massey<F: Field>(
     answer: &mut [F],
     second: &mut [F],
 ) -> Result<usize, ListFault>
-    ensures number { result ≡ answered field s.now answer.old second.old }
-    ensures list { answer.new ≡ filled field s.now answer.old second.old }
-    ensures after { second.new ≡ cleared field s.now answer.old second.old }
-    ensures shortest { Shortest field (coeff field s.now) (length s.now) (register field (coeff field s.now) (length s.now)).L (connection field s.now) }
+    ensures number { result ≡ answered F.field s.now answer.old second.old }
+    ensures list { answer.new ≡ filled F.field s.now answer.old second.old }
+    ensures after { second.new ≡ cleared F.field s.now answer.old second.old }
+    ensures shortest { Shortest F.field (coeff F.field s.now) (length s.now) (register F.field (coeff F.field s.now) (length s.now)).L (connection F.field s.now) }
 {
     let n = s.len();
     if n == 0 {

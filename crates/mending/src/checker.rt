@@ -14,7 +14,7 @@ use slip::slip::Slip;
 
 /// Whether records are a pattern that fits the slip by a code.
 pub fn fits<C: Checksum>(slip: &Slip, records: &[Record]) -> bool
-    ensures { Decides result (Fits (rows_of SymbolField-as-Field.numbers SymbolField-as-Field.field C.Checksum.code) (view slip.now) records.now) }
+    ensures { Decides result (Fits (rows_of C.SymbolField.Field.numbers C.SymbolField.Field.field C.Checksum.code) (view slip.now) records.now) }
 {
     C::laws();
     C::SymbolField::small();

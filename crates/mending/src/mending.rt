@@ -25,7 +25,7 @@ pub fn solve<C: Checksum>(
     records: &mut [Record],
     work: &mut [C::CorrectionField],
 ) -> Result<(usize, usize), CodeFault>
-    ensures follows { Follows (view slip.now) (solve (rows_of SymbolField-as-Field.numbers SymbolField-as-Field.field C.Checksum.code) (length records.old) (length work.old)) (told_list result records.new) (view slip.now) }
+    ensures follows { Follows (view slip.now) (solve (rows_of C.SymbolField.Field.numbers C.SymbolField.Field.field C.Checksum.code) (length records.old) (length work.old)) (told_list result records.new) (view slip.now) }
     ensures past { drop (written result) records.new ≡ drop (written result) records.old }
     ensures working { work.new ≡ cleared C.CorrectionField.Field.field result work.old }
 {
@@ -42,7 +42,7 @@ pub fn settle<C: Checksum>(
     records: &mut [Record],
     work: &mut [C::CorrectionField],
 ) -> Result<(usize, usize), CodeFault>
-    ensures follows { Follows (view slip.old) (settle (rows_of SymbolField-as-Field.numbers SymbolField-as-Field.field C.Checksum.code) (length records.old) (length work.old)) (told_list result records.new) (view slip.new) }
+    ensures follows { Follows (view slip.old) (settle (rows_of C.SymbolField.Field.numbers C.SymbolField.Field.field C.Checksum.code) (length records.old) (length work.old)) (told_list result records.new) (view slip.new) }
     ensures past { drop (written result) records.new ≡ drop (written result) records.old }
     ensures working { work.new ≡ cleared C.CorrectionField.Field.field result work.old }
 {
@@ -63,7 +63,7 @@ fn find<C: Checksum>(
     records: usize,
     work: &mut [C::CorrectionField],
 ) -> Result<Pattern, CodeFault>
-    ensures found { Found (rows_of SymbolField-as-Field.numbers SymbolField-as-Field.field C.Checksum.code) records (length work.old) (view slip.now) result }
+    ensures found { Found (rows_of C.SymbolField.Field.numbers C.SymbolField.Field.field C.Checksum.code) records (length work.old) (view slip.now) result }
     ensures working { work.new ≡ cleared C.CorrectionField.Field.field result work.old }
 {
     C::laws();

@@ -15,7 +15,7 @@ use fieldvec::fault::{ListFault, admit};
 
 /// The degree of a list that may be empty: the highest power whose coefficient is not ZERO, else 0.
 pub fn top_power<F: Field>(list: &[F]) -> usize
-    ensures { result ≡ spec.degree field list.now }
+    ensures { result ≡ spec.degree F.field list.now }
 {
     for power in (1..list.len()).rev() {
         if list[power] != F::zero() {
@@ -27,7 +27,7 @@ pub fn top_power<F: Field>(list: &[F]) -> usize
 
 /// The degree: the highest power with a coefficient that is not ZERO, and 0 for a list of ZEROs.
 pub fn degree<F: Field>(list: &[F]) -> Result<usize, ListFault>
-    ensures { result ≡ asked (length list.now) (spec.degree field list.now) }
+    ensures { result ≡ asked (length list.now) (spec.degree F.field list.now) }
 {
     if list.is_empty() {
         return Err(ListFault::Empty);
@@ -37,7 +37,7 @@ pub fn degree<F: Field>(list: &[F]) -> Result<usize, ListFault>
 
 /// The coefficient of the highest power that has one other than ZERO, and ZERO for a list of ZEROs.
 pub fn leading_term<F: Field>(list: &[F]) -> Result<F, ListFault>
-    ensures { result ≡ asked (length list.now) (spec.leading field list.now) }
+    ensures { result ≡ asked (length list.now) (spec.leading F.field list.now) }
 {
     if list.is_empty() {
         return Err(ListFault::Empty);
@@ -47,7 +47,7 @@ pub fn leading_term<F: Field>(list: &[F]) -> Result<F, ListFault>
 
 // The value at x, ZERO for the empty list.
 pub(crate) fn value_at<F: Field>(list: &[F], x: F) -> F
-    ensures { result ≡ eval field list.now x }
+    ensures { result ≡ eval F.field list.now x }
 {
     let mut value = F::zero();
     for i in (0..list.len()).rev() {
@@ -58,7 +58,7 @@ pub(crate) fn value_at<F: Field>(list: &[F], x: F) -> F
 
 /// The value at x.
 pub fn evaluate<F: Field>(list: &[F], x: F) -> Result<F, ListFault>
-    ensures { result ≡ asked (length list.now) (eval field list.now x) }
+    ensures { result ≡ asked (length list.now) (eval F.field list.now x) }
 {
     if list.is_empty() {
         return Err(ListFault::Empty);
@@ -68,7 +68,7 @@ pub fn evaluate<F: Field>(list: &[F], x: F) -> Result<F, ListFault>
 
 /// The value of a list over the base at an element of the field above.
 pub fn evaluate_lifted<E: ExtensionField>(list: &[E::BaseField], x: E) -> Result<E, ListFault>
-    ensures { result ≡ asked (length list.now) (eval E.Field.field (map lifted list.now) x) }
+    ensures { result ≡ asked (length list.now) (eval E.Field.field (map E.lifted list.now) x) }
 {
     if list.is_empty() {
         return Err(ListFault::Empty);
@@ -82,7 +82,7 @@ pub fn evaluate_lifted<E: ExtensionField>(list: &[E::BaseField], x: E) -> Result
 
 // n times x, by doubling.
 fn multiple<F: Field>(x: F, n: usize) -> F
-    ensures { result ≡ times field x n }
+    ensures { result ≡ times F.field x n }
 {
     let mut sum = F::zero();
     let mut doubled = x;
@@ -99,8 +99,8 @@ fn multiple<F: Field>(x: F, n: usize) -> F
 
 /// The formal derivative: as many entries as the degree; it answers how many.
 pub fn formal_derivative<F: Field>(list: &[F], out: &mut [F]) -> Result<usize, ListFault>
-    ensures answer { result ≡ count (length list.now) (spec.derivative field list.now) out.old }
-    ensures answered { out.new ≡ written (length list.now) (spec.derivative field list.now) out.old }
+    ensures answer { result ≡ count (length list.now) (spec.derivative F.field list.now) out.old }
+    ensures answered { out.new ≡ written (length list.now) (spec.derivative F.field list.now) out.old }
 {
     let n = admit(list.len(), top_power(list), out.len())?;
     for i in 0..n {
@@ -111,7 +111,7 @@ pub fn formal_derivative<F: Field>(list: &[F], out: &mut [F]) -> Result<usize, L
 
 /// A cursor over the indices below the base's multiplicative order at whose power of the base a list is ZERO.
 pub fn find_nonzero_distinct_roots<F: Field>(base: F) -> Result<Roots<F>, ListFault>
-    ensures { Seeks field base result }
+    ensures { Seeks F.field base result }
 {
     let order = multiplicative_order(base)?;
     Ok(Roots {
@@ -124,8 +124,8 @@ pub fn find_nonzero_distinct_roots<F: Field>(base: F) -> Result<Roots<F>, ListFa
 
 // Passes indices, a number of which are left, up to one at whose power the list is ZERO.
 fn seek<F: Field>(list: &[F], base: F, left: usize, power: F) -> (usize, F)
-    ensures same { (n : ℕ) → left_over field list.now base n result.0 result.1 ≡ left_over field list.now base n left power }
-    ensures root { 0 < result.0 → eval field list.now result.1 ≡ field.𝟘 }
+    ensures same { (n : ℕ) → left_over F.field list.now base n result.0 result.1 ≡ left_over F.field list.now base n left power }
+    ensures root { 0 < result.0 → eval F.field list.now result.1 ≡ F.field.𝟘 }
 {
     let mut k = left;
     let mut x = power;
@@ -142,8 +142,8 @@ fn seek<F: Field>(list: &[F], base: F, left: usize, power: F) -> (usize, F)
 impl<F: Field> Roots<F> {
     /// The next index, none past the last.
     pub fn next(&mut self, list: &[F]) -> Result<Option<usize>, ListFault>
-        ensures answer { result ≡ asked (length list.now) (item (coming field list.now self.old) 0) }
-        ensures rest { Stepped field list.now self.old self.new }
+        ensures answer { result ≡ asked (length list.now) (item (coming F.field list.now self.old) 0) }
+        ensures rest { Stepped F.field list.now self.old self.new }
     {
         if list.is_empty() {
             return Err(ListFault::Empty);

@@ -11,7 +11,7 @@ use polynomial::polynomial::top_power;
 
 // Term n of the product of two lists.
 pub fn product_term<F: Field>(p: &[F], q: &[F], n: usize) -> F
-    ensures { result ≡ term_of field p.now (coeff field q.now) n }
+    ensures { result ≡ term_of F.field p.now (coeff F.field q.now) n }
 {
     let mut sum = F::zero();
     for i in 0..p.len() {
@@ -28,7 +28,7 @@ pub fn product_term<F: Field>(p: &[F], q: &[F], n: usize) -> F
 // The n terms of the product of two lists from a power on, written at the front of a third.
 pub(crate) fn series_product<F: Field>(p: &[F], q: &[F], from: usize, n: usize, out: &mut [F])
     requires { (n ≤ length out.old) × (from + n < 2 ^ 64) }
-    ensures { out.new ≡ tab n (λ j. term_of field p.now (coeff field q.now) (from + j)) ++ drop n out.old }
+    ensures { out.new ≡ tab n (λ j. term_of F.field p.now (coeff F.field q.now) (from + j)) ++ drop n out.old }
 {
     for j in 0..n {
         out[j] = product_term(p, q, from + j);
@@ -37,8 +37,8 @@ pub(crate) fn series_product<F: Field>(p: &[F], q: &[F], from: usize, n: usize, 
 
 /// The product of a and b from power 0 to the sum of their degrees plus 1, cut at d; it answers how many entries.
 pub fn mul_mod_x_d<F: Field>(a: &[F], b: &[F], d: usize, out: &mut [F]) -> Result<usize, ListFault>
-    ensures answer { result ≡ count (min (length a.now) (length b.now)) (spec.product field a.now b.now d) out.old }
-    ensures answered { out.new ≡ written (min (length a.now) (length b.now)) (spec.product field a.now b.now d) out.old }
+    ensures answer { result ≡ count (min (length a.now) (length b.now)) (spec.product F.field a.now b.now d) out.old }
+    ensures answered { out.new ≡ written (min (length a.now) (length b.now)) (spec.product F.field a.now b.now d) out.old }
 {
     let uncut = top_power(a).saturating_add(top_power(b)).saturating_add(2);
     let n = admit(a.len().min(b.len()), d.min(uncut), out.len())?;
@@ -49,8 +49,8 @@ pub fn mul_mod_x_d<F: Field>(a: &[F], b: &[F], d: usize, out: &mut [F]) -> Resul
 /// The terms of a times s that all coefficients of a reach, or one ZERO where s is too short to have any; it answers how
 /// many entries.
 pub fn convolution<F: Field>(a: &[F], s: &[F], out: &mut [F]) -> Result<usize, ListFault>
-    ensures answer { result ≡ count (length a.now) (spec.convolved field a.now s.now) out.old }
-    ensures answered { out.new ≡ written (length a.now) (spec.convolved field a.now s.now) out.old }
+    ensures answer { result ≡ count (length a.now) (spec.convolved F.field a.now s.now) out.old }
+    ensures answered { out.new ≡ written (length a.now) (spec.convolved F.field a.now s.now) out.old }
 {
     let power = top_power(a);
     let terms = s.len().saturating_sub(power);

@@ -63,7 +63,7 @@ pub trait CodeSet: Copy {
 impl<C: Checksum> CodeSet for One<C> {
     type Desk = Desk<C::CorrectionField>;
 
-    ghost rows = { λ _. rows_of SymbolField-as-Field.numbers SymbolField-as-Field.field C.Checksum.code };
+    ghost rows = { λ _. rows_of C.SymbolField.Field.numbers C.SymbolField.Field.field C.Checksum.code };
 
     ghost clear = { λ d. d.work ≡ replicate 216 C.CorrectionField.Field.field.𝟘 };
 

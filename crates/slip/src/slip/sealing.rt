@@ -15,9 +15,9 @@ use field::field::Field;
 impl Slip {
     /// Seal: appends the k check symbols, undoubted, that make the row sound by the code.
     pub fn seal<C: Checksum>(&mut self) -> Result<(), CodeFault>
-        ensures answer { result ≡ answer (seal SymbolField-as-Field.numbers SymbolField-as-Field.field C.Checksum.code (view self.old)) }
-        ensures book { view self.new ≡ after (view self.old) (seal SymbolField-as-Field.numbers SymbolField-as-Field.field C.Checksum.code (view self.old)) }
-        ensures sound { result ≡ Ok tt → Sound SymbolField-as-Field.field C.Checksum.code (elements SymbolField-as-Field.numbers (row (view self.new))) }
+        ensures answer { result ≡ answer (seal C.SymbolField.Field.numbers C.SymbolField.Field.field C.Checksum.code (view self.old)) }
+        ensures book { view self.new ≡ after (view self.old) (seal C.SymbolField.Field.numbers C.SymbolField.Field.field C.Checksum.code (view self.old)) }
+        ensures sound { result ≡ Ok tt → Sound C.SymbolField.Field.field C.Checksum.code (elements C.SymbolField.Field.numbers (row (view self.new))) }
     {
         C::laws();
         if self.len == 0 {
@@ -32,7 +32,7 @@ impl Slip {
 
     /// The code's engine after the slip's row.
     pub fn engine<C: Checksum>(&self) -> Engine<C>
-        ensures { held C.Checksum.code result.entries ≡ residue SymbolField-as-Field.field C.Checksum.code (elements SymbolField-as-Field.numbers (row (view self.now))) }
+        ensures { held C.Checksum.code result.entries ≡ residue C.SymbolField.Field.field C.Checksum.code (elements C.SymbolField.Field.numbers (row (view self.now))) }
     {
         C::SymbolField::small();
         engine_of::<C>(self.symbols())
@@ -64,7 +64,7 @@ impl Slip {
 // The engine after a row, given by the numbers of its symbols.
 fn engine_of<C: Checksum>(symbols: &[u8]) -> Engine<C>
     requires { (k : ℕ) → slice_index symbols.now k < 32 }
-    ensures { held C.Checksum.code result.entries ≡ residue SymbolField-as-Field.field C.Checksum.code (elements SymbolField-as-Field.numbers symbols.now) }
+    ensures { held C.Checksum.code result.entries ≡ residue C.SymbolField.Field.field C.Checksum.code (elements C.SymbolField.Field.numbers symbols.now) }
 {
     C::laws();
     C::SymbolField::small();

@@ -5,7 +5,7 @@ use Rattle.checksum.specs.Engine.{padded}
 use Rattle.checksum.proofs.Sizes.{engine_fits, sixteen_fit}
 use Rattle.checksum.proofs.engine.seal.Goals as goal
 
-pub of-row-requires : goal.of_row-requires
+pub of_row-requires : goal.of_row-requires
 of_row-requires g c = search (rules, engine_fits)
 
 pub closing-requires : goal.closing-requires

@@ -4,7 +4,7 @@ use Rattle.algebra.proofs.Orders.{pow_ne_zero}
 use Rattle.correction.proofs.Values.{same_some}
 use Rattle.correction.proofs.forney.change_at.Goals as goal
 
-pub error-value-requires : goal.error_value-requires
+pub error_value-requires : goal.error_value-requires
 error_value-requires g c =
     let F = g.E.Field.field in
     let is : c.in_ok-power.field-0 ≡ pow F c.args.a c.args.position = same_some c.power.result c.in_ok-power.was c.power.ensures in

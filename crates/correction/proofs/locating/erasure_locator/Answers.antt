@@ -11,7 +11,7 @@ pub loop-place-init : goal.loop-place-init
 loop-place-init g c =
     doubted_none g.F.Field.field c.args.a c.args.marks.now c.args.list.now c.one.result c.one-power.result (omega arith) c.one.ensures c.one-power.ensures
 
-pub times-linear-requires : goal.times_linear-requires
+pub times_linear-requires : goal.times_linear-requires
 times_linear-requires g c =
     let l = c.loop-place in
     let room = doubted_room g.F.Field.field c.args.a c.args.marks.now l.place l.len l.power (set c.args.list.now 0 c.one.result) l.list l.invariant c.loop-place-test.true c.if-marks-place.true in

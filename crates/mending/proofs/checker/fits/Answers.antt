@@ -20,7 +20,7 @@ mended-requires g c = (c.laws.ensures.alphabet, sensible_changes (view c.args.sl
 pub engine-requires : goal.engine-requires
 engine-requires g c = search (rules, engine_fits)
 
-pub meets-target-requires : goal.meets_target-requires
+pub meets_target-requires : goal.meets_target-requires
 meets_target-requires g c = search (rules, engine_fits)
 
 pub returns : goal.returns

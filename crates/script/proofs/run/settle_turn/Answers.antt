@@ -2,7 +2,7 @@ use Rattle.std.proofs.Common.{refl, rules}
 use Rattle.script.proofs.Lent.{few_settled, settle_in_part}
 use Rattle.script.proofs.run.settle_turn.Goals as goal
 
-pub list-reply-requires : goal.list_reply-requires
+pub list_reply-requires : goal.list_reply-requires
 list_reply-requires g c = few_settled c.settle-listed.result c.settle-listed.new.records (search rules) c.settle-listed.ensures
 
 pub returns : goal.returns

@@ -2,7 +2,7 @@ use Rattle.std.proofs.Common.{refl, rules}
 use Rattle.script.proofs.Lent.{few_solved, solve_in_part}
 use Rattle.script.proofs.run.solve_turn.Goals as goal
 
-pub list-reply-requires : goal.list_reply-requires
+pub list_reply-requires : goal.list_reply-requires
 list_reply-requires g c = few_solved c.solve-listed.result c.solve-listed.new.records (search rules) c.solve-listed.ensures
 
 pub returns : goal.returns

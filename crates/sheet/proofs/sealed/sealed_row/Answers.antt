@@ -7,7 +7,7 @@ use Rattle.sheet.proofs.sealed.sealed_row.Goals as goal
 pub unwrap-requires : goal.unwrap-requires
 unwrap-requires c = ap is_ok (c.seal.ensures.answer ∙ ap answer (eight_held (view c.args.slip.now) c.requires))
 
-pub copy-from-slice-requires : goal.copy_from_slice-requires
+pub copy_from_slice-requires : goal.copy_from_slice-requires
 copy_from_slice-requires c =
     let b = view c.args.slip.now in
     sym (ap length (eight_sealed b c.requires _ _ c.seal.ensures.book c.symbols.ensures.row) ∙ twelve_sealed b c.requires)

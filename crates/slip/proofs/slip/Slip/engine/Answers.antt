@@ -4,7 +4,7 @@ use Rattle.checksum.proofs.Sizes.{engine_fits}
 use Rattle.slip.specs.Sealing.{elements}
 use Rattle.slip.proofs.slip.Slip.engine.Goals as goal
 
-pub engine-of-requires : goal.engine_of-requires
+pub engine_of-requires : goal.engine_of-requires
 engine_of-requires g c = (search (rules, engine_fits), c.symbols.ensures.below)
 
 pub returns : goal.returns

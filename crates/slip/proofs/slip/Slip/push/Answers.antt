@@ -2,8 +2,8 @@ use Rattle.std.proofs.Common.{refl, ◌∙◌, arith, length-set}
 use Rattle.slip.proofs.Places.{places_push, set_below}
 use Rattle.slip.proofs.slip.Slip.push.Goals as goal
 
-pub invariant-of-self : goal.invariant-of-self
-invariant-of-self c =
+pub invariant_of-self : goal.invariant_of-self
+invariant_of-self c =
     let s = c.args.self.now in (
       length-set s.symbols s.len c.args.symbol ∙ s.all_symbols,
       (

@@ -3,8 +3,8 @@ use lib.Bits.{xor_lt}
 use Rattle.gf32.specs.Gf32.{gf32, fe_path}
 use Rattle.gf32.proofs.gf32.arithmetic.Fe32Field.add.Goals as goal
 
-pub invariant-of-result : goal.invariant-of-result
-invariant-of-result c = (xor_lt 5 c.args.self.value c.args.other.value c.args.self.ok c.args.other.ok, tt)
+pub invariant_of-result : goal.invariant_of-result
+invariant_of-result c = (xor_lt 5 c.args.self.value c.args.other.value c.args.self.ok c.args.other.ok, tt)
 
 pub returns : goal.returns
 unfolding gf32
