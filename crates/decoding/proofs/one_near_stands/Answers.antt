@@ -3,4 +3,4 @@ use Rattle.decoding.proofs.one_near_stands.Goals as goal
 
 pub returns : goal.returns
 returns g c =
-    one_near g.SymbolField.Field.field g.CorrectionField.Field.field g.CorrectionField.ExtensionField.lifted c.lift_laws.ensures g.C.Checksum.code c.laws.ensures.lawful
+    one_near g.C.SymbolField.Field.field g.C.CorrectionField.Field.field g.C.CorrectionField.ExtensionField.lifted c.lift_laws.ensures g.C.Checksum.code c.laws.ensures.lawful

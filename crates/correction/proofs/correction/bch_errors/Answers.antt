@@ -32,10 +32,10 @@ in_parts-proposal-requires g c =
 
 pub returns : goal.returns
 returns g c =
-    let N = g.SymbolField.Field.numbers in
-    let s = g.SymbolField.Field.field in
-    let e = g.CorrectionField.Field.field in
-    let up = g.CorrectionField.ExtensionField.lifted in
+    let N = g.C.SymbolField.Field.numbers in
+    let s = g.C.SymbolField.Field.field in
+    let e = g.C.CorrectionField.Field.field in
+    let up = g.C.CorrectionField.ExtensionField.lifted in
     let C = g.C.Checksum.code in
     let slip = c.args.slip.now in
     let list = c.syndromes.new.out in
@@ -49,7 +49,7 @@ returns g c =
     let enough : 12 * (bound C + 2) ≤ length c.args.work.now = omega (arith, c.bound-bound.ensures) in
     record {
       proposes = λ n short long near.
-          proposes N s e up c.lift_laws.ensures C c.laws.ensures.lawful g.CorrectionField.Field.numbers g.CorrectionField.Field.units g.met.CorrectionField.Field.cyclic
+          proposes N s e up c.lift_laws.ensures C c.laws.ensures.lawful g.C.CorrectionField.Field.numbers g.C.CorrectionField.Field.units g.met.C.CorrectionField.Field.cyclic
           (view slip) (row_below N.size c.laws.ensures.alphabet slip) list ms is-list c.marks.ensures n short near r tells;
       after = simp (le-ltb (length c.args.work.now) (12 * (bound C + 2)) enough) (search rules);
     }

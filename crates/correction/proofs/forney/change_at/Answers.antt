@@ -12,6 +12,6 @@ error_value-requires g c =
 
 pub overflow-cast-result : goal.overflow-cast-result
 overflow-cast-result g c =
-    let below = g.BaseField.Field.numbers.below c.in_ok-symbol.symbol in
+    let below = g.E.BaseField.Field.numbers.below c.in_ok-symbol.symbol in
     let small : c.to_number.result < 256 = omega (arith, c.to_number.ensures, c.requires.1.1.1.1) in
     search rules

@@ -9,13 +9,13 @@ use Rattle.correction.proofs.listing.list_erasures.Goals.{then-marks-place+in-ok
 
 pub returns-in_err-list_place : goal.returns-in_err-list_place
 returns-in_err-list_place g c =
-    let Change = Valued g.E.Field.field g.E.ExtensionField.lifted g.BaseField.Field.numbers c.args.evaluator.now c.args.derivative.now c.args.a c.args.first in
+    let Change = Valued g.E.Field.field g.E.ExtensionField.lifted g.E.BaseField.Field.numbers c.args.evaluator.now c.args.derivative.now c.args.a c.args.first in
     never_refused c.args.marks.now c.loop-place.place c.loop-place-test.true Change (held c.args.pattern.now) (held c.loop-place.pattern) c.loop-place.invariant
     c.if-marks-place.true (held c.list_place.new.pattern) c.list_place.result c.list_place.ensures c.in_err-list_place.was (held c.list_place.new.pattern) c.from_residual.result
 
 pub loop-place-preserved : goal.loop-place-preserved
 loop-place-preserved g c =
-    let Change = Valued g.E.Field.field g.E.ExtensionField.lifted g.BaseField.Field.numbers c.args.evaluator.now c.args.derivative.now c.args.a c.args.first in
+    let Change = Valued g.E.Field.field g.E.ExtensionField.lifted g.E.BaseField.Field.numbers c.args.evaluator.now c.args.derivative.now c.args.a c.args.first in
     let ms = c.args.marks.now in
     let i = c.loop-place.place in
     let before = held c.args.pattern.now in
@@ -33,7 +33,7 @@ loop-place-preserved g c =
 
 pub returns : goal.returns
 returns g c =
-    let Change = Valued g.E.Field.field g.E.ExtensionField.lifted g.BaseField.Field.numbers c.args.evaluator.now c.args.derivative.now c.args.a c.args.first in
+    let Change = Valued g.E.Field.field g.E.ExtensionField.lifted g.E.BaseField.Field.numbers c.args.evaluator.now c.args.derivative.now c.args.a c.args.first in
     let ms = c.args.marks.now in
     let before = held c.args.pattern.now in
     let hs = held c.loop-place.pattern in

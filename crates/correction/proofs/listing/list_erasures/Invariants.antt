@@ -6,5 +6,5 @@ use Rattle.correction.proofs.Onward.{Onward}
 use Rattle.correction.proofs.listing.list_erasures.Given as goal
 
 abbrev pub invariant-loop-place : goal.invariant-loop-place
-invariant-loop-place g l = Onward (Valued g.E.Field.field g.E.ExtensionField.lifted g.BaseField.Field.numbers l.evaluator l.derivative l.a l.first)
+invariant-loop-place g l = Onward (Valued g.E.Field.field g.E.ExtensionField.lifted g.E.BaseField.Field.numbers l.evaluator l.derivative l.a l.first)
     (length l.marks) (positions l.marks) (held l.initial.pattern) (positions (drop l.place l.marks)) (held l.pattern)

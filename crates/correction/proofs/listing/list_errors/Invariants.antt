@@ -11,7 +11,7 @@ use Rattle.correction.proofs.listing.list_errors.Given as goal
 abbrev pub invariant-loop-index : goal.invariant-loop-index
 invariant-loop-index g l = let F = g.E.Field.field in
     HasOrder F l.a l.order
-    × Onward (OnRow l.len (Valued F g.E.ExtensionField.lifted g.BaseField.Field.numbers l.evaluator l.derivative l.a l.first))
+    × Onward (OnRow l.len (Valued F g.E.ExtensionField.lifted g.E.BaseField.Field.numbers l.evaluator l.derivative l.a l.first))
     l.len (map (root_position l.order) (roots F l.conn l.a l.order)) (held l.initial.pattern) (map (root_position l.order) (coming F l.conn l.roots)) (held l.pattern)
 
 abbrev pub decreases-loop-index : goal.decreases-loop-index

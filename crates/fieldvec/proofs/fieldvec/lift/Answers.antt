@@ -7,7 +7,7 @@ use Rattle.fieldvec.proofs.fieldvec.lift.Goals as goal
 
 pub returns-in_err-n : goal.returns-in_err-n
 returns-in_err-n g c =
-    let B = g.BaseField.Field.field in
+    let B = g.E.BaseField.Field.field in
     let up = g.E.ExtensionField.lifted in
     let p = c.args.list.now in
     let old = c.args.out.now in
@@ -19,7 +19,7 @@ returns-in_err-n g c =
 
 pub loop-i-preserved : goal.loop-i-preserved
 loop-i-preserved g c =
-    let B = g.BaseField.Field.field in
+    let B = g.E.BaseField.Field.field in
     let up = g.E.ExtensionField.lifted in
     let p = c.args.list.now in
     let i = c.loop-i.i in
@@ -32,7 +32,7 @@ loop-i-preserved g c =
 
 pub returns : goal.returns
 returns g c =
-    let B = g.BaseField.Field.field in
+    let B = g.E.BaseField.Field.field in
     let up = g.E.ExtensionField.lifted in
     let p = c.args.list.now in
     let old = c.args.out.now in

@@ -9,9 +9,9 @@ use Rattle.mending.proofs.Fitted.{sensible_changes, not_formed, fits_decided}
 use Rattle.mending.proofs.checker.fits.Goals as goal
 
 pub returns-then-not-formed : goal.returns-then-not-formed
-returns-then-not-formed g c = decided_no (not_formed g.SymbolField.Field.numbers g.SymbolField.Field.field g.C.Checksum.code c.laws.ensures.alphabet
+returns-then-not-formed g c = decided_no (not_formed g.C.SymbolField.Field.numbers g.C.SymbolField.Field.field g.C.Checksum.code c.laws.ensures.alphabet
     (view c.args.slip.now) c.args.records.now c.number-nothing.result c.bound.result
-    (c.number-nothing.ensures.number ∙ ap g.SymbolField.Field.numbers.number c.zero.ensures) c.bound.ensures
+    (c.number-nothing.ensures.number ∙ ap g.C.SymbolField.Field.numbers.number c.zero.ensures) c.bound.ensures
     (not_from_Decides c.formed.result c.formed.ensures c.if-not-formed.true))
 
 pub mended-requires : goal.mended-requires
@@ -24,8 +24,8 @@ pub meets_target-requires : goal.meets_target-requires
 meets_target-requires g c = search (rules, engine_fits)
 
 pub returns : goal.returns
-returns g c = fits_decided g.SymbolField.Field.numbers g.SymbolField.Field.field g.C.Checksum.code c.laws.ensures.alphabet
+returns g c = fits_decided g.C.SymbolField.Field.numbers g.C.SymbolField.Field.field g.C.Checksum.code c.laws.ensures.alphabet
     (view c.args.slip.now) c.args.records.now c.number-nothing.result c.bound.result
-    (c.number-nothing.ensures.number ∙ ap g.SymbolField.Field.numbers.number c.zero.ensures) c.bound.ensures
+    (c.number-nothing.ensures.number ∙ ap g.C.SymbolField.Field.numbers.number c.zero.ensures) c.bound.ensures
     (row_below 32 refl c.args.slip.now) (c.formed.ensures.0 c.if-not-formed.false) (view c.mended.result) c.mended.ensures
     (held g.C.Checksum.code c.engine.result.entries) c.engine.ensures c.meets_target.result c.meets_target.ensures

@@ -11,7 +11,7 @@ use Rattle.mending.proofs.mending.find.Goals as goal
 
 pub returns-in-Some : goal.returns-in-Some
 returns-in-Some g c =
-    let C = rows_of g.SymbolField.Field.numbers g.SymbolField.Field.field g.C.Checksum.code in
+    let C = rows_of g.C.SymbolField.Field.numbers g.C.SymbolField.Field.field g.C.Checksum.code in
     let b = view c.args.slip.now in
     let r = c.args.records in
     let w = length c.args.work.now in
@@ -19,52 +19,52 @@ returns-in-Some g c =
     fault_is C r w b c.checksum_length.result c.code_length.result c.bound.result c.checksum_length.ensures c.code_length.ensures c.bound.ensures (Some c.in-Some.fault) c.in-Some.ensures in
     record {
       found = barred some;
-      working = fault_kept g.CorrectionField.Field.field c.args.work.now C r w b c.in-Some.fault some;
+      working = fault_kept g.C.CorrectionField.Field.field c.args.work.now C r w b c.in-Some.fault some;
     }
 
 pub returns-then-fits : goal.returns-then-fits
 returns-then-fits g c =
-    let C = rows_of g.SymbolField.Field.numbers g.SymbolField.Field.field g.C.Checksum.code in
+    let C = rows_of g.C.SymbolField.Field.numbers g.C.SymbolField.Field.field g.C.Checksum.code in
     let b = view c.args.slip.now in
     let r = c.args.records in
     let w = length c.args.work.now in
-    let law : Lawful C = rows_lawful g.SymbolField.Field.numbers g.SymbolField.Field.field g.CorrectionField.Field.field g.CorrectionField.ExtensionField.lifted c.lift_laws.ensures
+    let law : Lawful C = rows_lawful g.C.SymbolField.Field.numbers g.C.SymbolField.Field.field g.C.CorrectionField.Field.field g.C.CorrectionField.ExtensionField.lifted c.lift_laws.ensures
     g.C.Checksum.code c.laws.ensures.lawful c.laws.ensures.alphabet in
     let none : unmendable C r w b ≡ None =
     fault_is C r w b c.checksum_length.result c.code_length.result c.bound.result c.checksum_length.ensures c.code_length.ensures c.bound.ensures None c.in_default.ensures in
     record {
       found = found C r w b law (row_below 32 refl c.args.slip.now) none c.in-Some-bch_errors.proposal c.records.result.now c.records.ensures
           c.in-Some-bch_errors.ensures.proposes (c.fits.ensures.0 c.if-fits.true);
-      working = worked_zeros g.CorrectionField.Field.field (bound g.C.Checksum.code) c.args.work.now c.bch_errors.new.work (able C r w b none).working c.bch_errors.ensures.after;
+      working = worked_zeros g.C.CorrectionField.Field.field (bound g.C.Checksum.code) c.args.work.now c.bch_errors.new.work (able C r w b none).working c.bch_errors.ensures.after;
     }
 
 pub returns-else-fits : goal.returns-else-fits
 returns-else-fits g c =
-    let C = rows_of g.SymbolField.Field.numbers g.SymbolField.Field.field g.C.Checksum.code in
+    let C = rows_of g.C.SymbolField.Field.numbers g.C.SymbolField.Field.field g.C.Checksum.code in
     let b = view c.args.slip.now in
     let r = c.args.records in
     let w = length c.args.work.now in
-    let law : Lawful C = rows_lawful g.SymbolField.Field.numbers g.SymbolField.Field.field g.CorrectionField.Field.field g.CorrectionField.ExtensionField.lifted c.lift_laws.ensures
+    let law : Lawful C = rows_lawful g.C.SymbolField.Field.numbers g.C.SymbolField.Field.field g.C.CorrectionField.Field.field g.C.CorrectionField.ExtensionField.lifted c.lift_laws.ensures
     g.C.Checksum.code c.laws.ensures.lawful c.laws.ensures.alphabet in
     let none : unmendable C r w b ≡ None =
     fault_is C r w b c.checksum_length.result c.code_length.result c.bound.result c.checksum_length.ensures c.code_length.ensures c.bound.ensures None c.in_default.ensures in
     record {
       found = unfit C r w b law (row_below 32 refl c.args.slip.now) none c.in-Some-bch_errors.proposal c.records.result.now c.records.ensures
           c.in-Some-bch_errors.ensures.proposes (not_from_Decides c.fits.result c.fits.ensures c.if-fits.false);
-      working = worked_zeros g.CorrectionField.Field.field (bound g.C.Checksum.code) c.args.work.now c.bch_errors.new.work (able C r w b none).working c.bch_errors.ensures.after;
+      working = worked_zeros g.C.CorrectionField.Field.field (bound g.C.Checksum.code) c.args.work.now c.bch_errors.new.work (able C r w b none).working c.bch_errors.ensures.after;
     }
 
 pub returns-in-None : goal.returns-in-None
 returns-in-None g c =
-    let C = rows_of g.SymbolField.Field.numbers g.SymbolField.Field.field g.C.Checksum.code in
+    let C = rows_of g.C.SymbolField.Field.numbers g.C.SymbolField.Field.field g.C.Checksum.code in
     let b = view c.args.slip.now in
     let r = c.args.records in
     let w = length c.args.work.now in
-    let law : Lawful C = rows_lawful g.SymbolField.Field.numbers g.SymbolField.Field.field g.CorrectionField.Field.field g.CorrectionField.ExtensionField.lifted c.lift_laws.ensures
+    let law : Lawful C = rows_lawful g.C.SymbolField.Field.numbers g.C.SymbolField.Field.field g.C.CorrectionField.Field.field g.C.CorrectionField.ExtensionField.lifted c.lift_laws.ensures
     g.C.Checksum.code c.laws.ensures.lawful c.laws.ensures.alphabet in
     let none : unmendable C r w b ≡ None =
     fault_is C r w b c.checksum_length.result c.code_length.result c.bound.result c.checksum_length.ensures c.code_length.ensures c.bound.ensures None c.in_default.ensures in
     record {
       found = none_found C r w b law (row_below 32 refl c.args.slip.now) none c.in-None.ensures.proposes;
-      working = worked_zeros g.CorrectionField.Field.field (bound g.C.Checksum.code) c.args.work.now c.bch_errors.new.work (able C r w b none).working c.bch_errors.ensures.after;
+      working = worked_zeros g.C.CorrectionField.Field.field (bound g.C.Checksum.code) c.args.work.now c.bch_errors.new.work (able C r w b none).working c.bch_errors.ensures.after;
     }

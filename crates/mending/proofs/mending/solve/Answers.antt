@@ -8,12 +8,12 @@ use Rattle.mending.proofs.mending.solve.Goals as goal
 
 pub returns-in-Ok : goal.returns-in-Ok
 returns-in-Ok g c =
-    let C = rows_of g.SymbolField.Field.numbers g.SymbolField.Field.field g.C.Checksum.code in
+    let C = rows_of g.C.SymbolField.Field.numbers g.C.SymbolField.Field.field g.C.Checksum.code in
     let b = view c.args.slip.now in
     let r = length c.args.records.now in
     let w = length c.args.work.now in
     let cs = c.records.result.now in
-    let zero : C.nothing ≡ c.number.result = zero_number g.SymbolField.Field.numbers g.SymbolField.Field.field c.zero.result c.number.result c.zero.ensures c.number.ensures.number in
+    let zero : C.nothing ≡ c.number.result = zero_number g.C.SymbolField.Field.numbers g.C.SymbolField.Field.field c.zero.result c.number.result c.zero.ensures c.number.ensures.number in
     record {
       follows = solved C r w b (held c.in-Ok.pattern) cs c.list.new.records c.args.records.now c.list.result.0 c.list.result.1
           c.in-Ok.ensures.found c.records.ensures c.list.ensures.many (c.list.ensures.changed C zero) c.list.ensures.listed;

@@ -17,8 +17,8 @@ returns-then-ne g c =
     let is-k = c.checksum_length-i-end.ensures in
     let within : i < length entries = omega arith in
     let told = c.ne.ensures in
-    let decided = g.met.C.SymbolField.Field.equality _ _ told.0 told.1 in
-    let differs = ne_differs c.ne.result told.0 decided told.2 c.if-ne.true in (
+    let decided = g.met.C.SymbolField.Field.equality _ _ _ refl in
+    let differs = ne_differs c.ne.result _ decided told c.if-ne.true in (
       λ e. absurd (false_ne_true e),
       λ e. absurd (differs (get_or_default entries i x F.𝟘 within ∙ alike_at F (checks code) entries code.target i (omega arith) e ∙ sym c.target_residue.ensures)),
     )
@@ -34,8 +34,8 @@ loop-i-preserved g c =
     let is-k = c.checksum_length-i-end.ensures in
     let within : i < length entries = omega arith in
     let told = c.ne.ensures in
-    let decided = g.met.C.SymbolField.Field.equality _ _ told.0 told.1 in
-    let same = ne_same c.ne.result told.0 decided told.2 c.if-ne.false in
+    let decided = g.met.C.SymbolField.Field.equality _ _ _ refl in
+    let same = ne_same c.ne.result _ decided told c.if-ne.false in
     below_more _ _ c.loop-i.invariant (sym (get_or_default entries i x F.𝟘 within) ∙ same ∙ c.target_residue.ensures)
 
 pub returns : goal.returns

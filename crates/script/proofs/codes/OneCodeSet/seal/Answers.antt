@@ -7,10 +7,10 @@ use Rattle.script.proofs.codes.OneCodeSet.seal.Goals as goal
 
 pub returns : goal.returns
 returns g c =
-    let N = g.SymbolField.Field.numbers in
-    let s = g.SymbolField.Field.field in
+    let N = g.C.SymbolField.Field.numbers in
+    let s = g.C.SymbolField.Field.field in
     let code = g.C.Checksum.code in
     let slip = c.args.slip.now in
-    let good = rows_sealed N s g.CorrectionField.Field.field g.CorrectionField.ExtensionField.lifted c.lift_laws.ensures code c.laws.ensures.lawful
+    let good = rows_sealed N s g.C.CorrectionField.Field.field g.C.CorrectionField.ExtensionField.lifted c.lift_laws.ensures code c.laws.ensures.lawful
     (row (view slip)) (row_below N.size c.laws.ensures.alphabet slip) in
     sealed N s code (view slip) _ _ good c.seal.ensures.answer c.seal.ensures.book

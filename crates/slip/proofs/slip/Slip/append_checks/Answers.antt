@@ -18,6 +18,6 @@ returns g c =
     let b = view c.args.self.now in
     c.append.ensures
     ∙ ap (λ vs. b ++ map sure vs)
-    (front_seal g.SymbolField.Field.numbers g.SymbolField.Field.field code c.laws.ensures.lawful.target_length
+    (front_seal g.C.SymbolField.Field.numbers g.C.SymbolField.Field.field code c.laws.ensures.lawful.target_length
     (row b) (row b) (held code c.engine.result.entries) c.closing-closing.result c.checksum_length.result
     c.checksum_length.ensures refl c.engine.ensures c.closing-closing.ensures)

@@ -9,4 +9,4 @@ engine_of-requires g c = (search (rules, engine_fits), c.symbols.ensures.below)
 
 pub returns : goal.returns
 returns g c =
-    c.engine_of.ensures ∙ ap (λ vs. residue g.SymbolField.Field.field g.C.Checksum.code (elements g.SymbolField.Field.numbers vs)) c.symbols.ensures.row
+    c.engine_of.ensures ∙ ap (λ vs. residue g.C.SymbolField.Field.field g.C.Checksum.code (elements g.C.SymbolField.Field.numbers vs)) c.symbols.ensures.row

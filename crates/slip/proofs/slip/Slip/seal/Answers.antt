@@ -9,8 +9,8 @@ use Rattle.slip.proofs.slip.Slip.seal.Goals as goal
 
 pub returns-then-self-checksum_length : goal.returns-then-self-checksum_length
 returns-then-self-checksum_length g c =
-    let N = g.SymbolField.Field.numbers in
-    let F = g.SymbolField.Field.field in
+    let N = g.C.SymbolField.Field.numbers in
+    let F = g.C.SymbolField.Field.field in
     let code = g.C.Checksum.code in
     let b = view c.args.self.now in
     let l = length_view c.args.self.now in
@@ -27,8 +27,8 @@ returns-then-self-checksum_length g c =
 
 pub returns : goal.returns
 returns g c =
-    let N = g.SymbolField.Field.numbers in
-    let F = g.SymbolField.Field.field in
+    let N = g.C.SymbolField.Field.numbers in
+    let F = g.C.SymbolField.Field.field in
     let code = g.C.Checksum.code in
     let b = view c.args.self.now in
     let l = length_view c.args.self.now in

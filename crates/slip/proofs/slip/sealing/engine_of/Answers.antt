@@ -7,8 +7,8 @@ use Rattle.slip.proofs.slip.sealing.engine_of.Goals as goal
 
 pub loop-symbol-preserved : goal.loop-symbol-preserved
 loop-symbol-preserved g c =
-    let F = g.SymbolField.Field.field in
-    let N = g.SymbolField.Field.numbers in
+    let F = g.C.SymbolField.Field.field in
+    let N = g.C.SymbolField.Field.numbers in
     let code = g.C.Checksum.code in
     let row = c.args.symbols.now in
     let i = c.loop-symbol.symbol-index in
@@ -21,8 +21,8 @@ loop-symbol-preserved g c =
 
 pub returns : goal.returns
 returns g c =
-    let F = g.SymbolField.Field.field in
-    let N = g.SymbolField.Field.numbers in
+    let F = g.C.SymbolField.Field.field in
+    let N = g.C.SymbolField.Field.numbers in
     let code = g.C.Checksum.code in
     let after = held code c.loop-symbol.engine.entries in
     sym (at_drop_all (λ (xs : List ℕ). residue_from F code.lower after (elements N xs)) c.args.symbols.now c.loop-symbol.symbol-index c.loop-symbol-test.false)

@@ -6,7 +6,7 @@ use Rattle.slip.proofs.slip.sealing.engine_of.Given as goal
 
 abbrev pub invariant-loop-symbol : goal.invariant-loop-symbol
 invariant-loop-symbol g l =
-    let F = g.SymbolField.Field.field in
-    let N = g.SymbolField.Field.numbers in
+    let F = g.C.SymbolField.Field.field in
+    let N = g.C.SymbolField.Field.numbers in
     let code = g.C.Checksum.code in
     residue_from F code.lower (held code l.engine.entries) (elements N (drop l.symbol-index l.symbols)) ≡ residue F code (elements N l.symbols)
