@@ -1,6 +1,8 @@
 // Runs strings of BIP 173 through the sheet code: each line of standard input that does not begin with # is a string, and for
 // each a line is written that says whether its row is sound, or too long for the code. Only the check is looked at, and not
 // what the string means. A string that cannot be read ends the run.
+#![tactic(auto)]
+
 use anyhow::anyhow;
 use checksum::checksum::Checksum;
 use checksum::engine::is_sound;

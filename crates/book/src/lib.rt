@@ -1,5 +1,7 @@
 // What the calls on a slip alone say: its book, the rows near it, what each call answers, and why one is refused. The
 // definitions are in specs/, and what follows from them in proofs/; the code is the faults, and the records of a mended row.
+#![tactic(auto)]
+
 pub mod code_fault;
 pub mod pattern;
 pub mod record;

@@ -1,4 +1,6 @@
 // The corrector: from a slip to the records that mend it, by way of syndromes, locators and Forney's values.
+#![tactic(auto)]
+
 pub mod correction;
 pub(crate) mod forney;
 pub(crate) mod listing;

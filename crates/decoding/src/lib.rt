@@ -1,5 +1,7 @@
 // What is proved of every code, whatever its fields: each function's contract is a theorem, in the words of the algebra,
 // and its body asks the code for the laws that the theorem rests on. None of them uses that x + x is ZERO.
+#![tactic(auto)]
+
 ghost use Rattle.algebra.specs.Rows.{SyndromesOfChanges, Distance, OneNear, OneMoreDoubt, Mends};
 
 use checksum::checksum::Checksum;

@@ -1,5 +1,7 @@
 // Worked examples as theorems: a table of what the definitions compute, proved equal to what is expected of them, and books with
 // what solve answers to each.
+#![tactic(auto)]
+
 ghost use Rattle.std.specs.Prelude.{◌≡◌};
 ghost use Rattle.examples.specs.Mended.{Mended};
 ghost use Rattle.examples.specs.Table.{computed, expected};

@@ -1,4 +1,6 @@
 // Finite fields: the interfaces that the whole library is generic over, and GF(32).
+#![tactic(auto)]
+
 pub mod arithmetic;
 pub mod cursor;
 pub mod fault;

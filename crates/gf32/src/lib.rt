@@ -1,2 +1,4 @@
 // The field of 32 elements.
+#![tactic(auto)]
+
 pub mod gf32;

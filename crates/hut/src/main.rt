@@ -1,6 +1,8 @@
 // The hut's program. Standard input is a sheet: each line is a finish as it was read out, boat, time and checks. For each
 // a line of five numbers is written: the line's number, the number of its refusal or 0, how many symbols were changed, the
 // sail number, and the seconds since midnight.
+#![tactic(auto)]
+
 use hut_lines::sheets::{LINE_BYTES, finish_sheet, line_count};
 use std::io::{Read, Write};
 

@@ -1,2 +1,4 @@
 // Linear feedback shift registers over any field.
+#![tactic(auto)]
+
 pub mod lfsr;

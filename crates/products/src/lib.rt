@@ -1,2 +1,4 @@
 // Products of coefficient lists over any field, in slices that the caller lends.
+#![tactic(auto)]
+
 pub mod products;

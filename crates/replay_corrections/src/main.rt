@@ -4,6 +4,8 @@
 // they are, and z, how many change something; or the number of the refusal. The second is the row that a settle leaves, or -
 // where it is refused. The third has the records as the original lists them, each as position:change, where a position counts
 // from the row's end.
+#![tactic(auto)]
+
 use anyhow::anyhow;
 use book::code_fault::CodeFault;
 use book::record::Record;

@@ -5,6 +5,8 @@
 //     neg inv order      of an element
 //     lift drop          of an element of GF(32), and to one; drop answers none where there is none
 // A refusal is written by its number.
+#![tactic(auto)]
+
 use anyhow::anyhow;
 use field::arithmetic::{difference, muli, quotient};
 use field::fault::FieldFault;

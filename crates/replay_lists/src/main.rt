@@ -7,6 +7,8 @@
 //     P SIZE mulmod D A B    the product of A and B below the power D; max cuts nothing off
 //     P SIZE conv A S        the convolution of A with S
 //     R SIZE S               the connection list of the shortest register that generates the terms S
+#![tactic(auto)]
+
 mod lent;
 mod lists;
 mod outcomes;

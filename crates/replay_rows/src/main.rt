@@ -1,6 +1,8 @@
 // Replays recorded answers on rows, by each code that the library has. The commands:
 //     E CODE ROW    the row's residue, lowest power first
 //     S CODE ROW    the check symbols that seal the row, in order
+#![tactic(auto)]
+
 use anyhow::anyhow;
 use checksum::checksum::Checksum;
 use checksum::engine::{Engine, seal};

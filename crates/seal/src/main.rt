@@ -1,6 +1,8 @@
 // Seals the rows of a finish, for the boat that reads them out. Each line of standard input holds the eight characters of
 // a boat and a time; for each, a line is written with the sealed row of twelve characters, or with the number of the
 // refusal and the byte where it lies.
+#![tactic(auto)]
+
 use sheet::sealed::seal_line;
 use std::io;
 use std::io::{Read, Write};

@@ -1,4 +1,6 @@
 // What crews type and what is written for them: characters, typed lines on slips, rows in groups of four, reading off.
+#![tactic(auto)]
+
 pub mod characters;
 pub mod fault;
 pub mod groups;

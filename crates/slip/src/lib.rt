@@ -1,2 +1,4 @@
 // Slips: rows in the making, with doubted places.
+#![tactic(auto)]
+
 pub mod slip;

@@ -1,2 +1,4 @@
 // A typed line, cut into its pieces.
+#![tactic(auto)]
+
 pub mod pieces;
