@@ -22,7 +22,7 @@ def files(folder, ending):
 def main(crates):
     for crate in crates:
         base = os.path.join(ROOT, "crates", crate)
-        words = {"from_residual", "into_iter", "in_ok", "in_err", "in_default", "In_ok", "In_err", "In_default"}
+        words = {"offset_bounds", "slice_bounds", "overflow_add", "overflow_sub", "overflow_mul", "overflow_shl", "overflow_shr", "overflow_cast", "overflow_step", "nonzero_div", "nonzero_rem", "invariant_of", "from_residual", "into_iter", "in_ok", "in_err", "in_default", "In_ok", "In_err", "In_default"}
         for path in files(os.path.join(base, "src"), ".rt"):
             with open(path, encoding="utf-8") as f:
                 words |= {w for w in re.findall(r"[A-Za-z][A-Za-z0-9_]*", f.read()) if "_" in w.strip("_")}

@@ -17,8 +17,8 @@ times_linear-requires g c =
     let room = doubted_room g.F.Field.field c.args.a c.args.marks.now l.place l.len l.power (set c.args.list.now 0 c.one.result) l.list l.invariant c.loop-place-test.true c.if-marks-place.true in
     omega (arith, length-set c.args.list.now 0 c.one.result)
 
-pub overflow-add-len : goal.overflow-add-len
-overflow-add-len g c =
+pub overflow_add-len : goal.overflow_add-len
+overflow_add-len g c =
     let l = c.loop-place in
     let room = doubted_room g.F.Field.field c.args.a c.args.marks.now l.place l.len l.power (set c.args.list.now 0 c.one.result) l.list l.invariant c.loop-place-test.true c.if-marks-place.true in
     omega (arith, length-set c.args.list.now 0 c.one.result)

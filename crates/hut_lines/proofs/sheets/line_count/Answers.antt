@@ -8,8 +8,8 @@ use Rattle.hut_lines.proofs.sheets.line_count.Goals as goal
 pub loop-rest-init : goal.loop-rest-init
 loop-rest-init c = (omega arith, omega arith)
 
-pub overflow-add-n : goal.overflow-add-n
-overflow-add-n c =
+pub overflow_add-n : goal.overflow_add-n
+overflow_add-n c =
     let ne = eqb-false _ 0 (sym c.loop-rest-test.ensures) in
     let b = c.loop-rest.invariant.1 in
     let some : 0 < length c.loop-rest.rest.now = omega arith in

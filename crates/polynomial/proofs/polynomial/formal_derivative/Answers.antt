@@ -19,8 +19,8 @@ returns-in_err-n g c =
       answered = refuses_list (length p) (derivative F p) old c.admit.result (length p) c.top_power.result c.admit.ensures.answer refl size c.in_err-n.field-0.0 c.in_err-n.was;
     }
 
-pub offset-bounds-list-i : goal.offset-bounds-list-i
-offset-bounds-list-i g c = omega (arith, degree_below g.F.Field.field c.args.list.now, c.in_ok-n.ensures.holds)
+pub offset_bounds-list-i : goal.offset_bounds-list-i
+offset_bounds-list-i g c = omega (arith, degree_below g.F.Field.field c.args.list.now, c.in_ok-n.ensures.holds)
 
 pub bounds-list-i : goal.bounds-list-i
 bounds-list-i g c = omega (arith, degree_below g.F.Field.field c.args.list.now, c.in_ok-n.ensures.holds)

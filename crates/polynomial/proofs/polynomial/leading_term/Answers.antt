@@ -6,8 +6,8 @@ use Rattle.polynomial.proofs.Degrees.{degree_below}
 use Rattle.fieldvec.proofs.Filled.{asked_some}
 use Rattle.polynomial.proofs.polynomial.leading_term.Goals as goal
 
-pub offset-bounds-list-top_power : goal.offset-bounds-list-top_power
-offset-bounds-list-top_power g c = omega (arith, degree_below g.F.Field.field c.args.list.now)
+pub offset_bounds-list-top_power : goal.offset_bounds-list-top_power
+offset_bounds-list-top_power g c = omega (arith, degree_below g.F.Field.field c.args.list.now)
 
 pub bounds-list-top_power : goal.bounds-list-top_power
 bounds-list-top_power g c =

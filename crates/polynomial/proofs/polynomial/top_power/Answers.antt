@@ -1,4 +1,4 @@
-use Rattle.std.proofs.Common.{arith}
+use Rattle.std.proofs.Common.{refl, arith}
 use Rattle.polynomial.proofs.Degrees.{degree_start, degree_passes, degree_found}
 use Rattle.polynomial.proofs.Equality.{differ, agree}
 use Rattle.polynomial.proofs.polynomial.top_power.Goals as goal
@@ -10,12 +10,12 @@ pub returns-then-ne : goal.returns-then-ne
 returns-then-ne g c =
     let test = c.if-ne.ensures in
     degree_found g.F.Field.field c.args.list.now c.loop-power.power c.index-list-power.result c.index-list-power.is (omega arith) (omega arith)
-    (differ test.0 (g.met.F.Field.equality c.index-list-power.result c.zero.result test.0 test.1) test.2 c.zero.ensures)
+    (differ _ (g.met.F.Field.equality c.index-list-power.result c.zero.result _ refl) test c.zero.ensures)
     c.loop-power.invariant
 
 pub loop-power-preserved : goal.loop-power-preserved
 loop-power-preserved g c =
     let test = c.if-ne.ensures in
     degree_passes g.F.Field.field c.args.list.now c.loop-power.power c.index-list-power.result c.index-list-power.is (omega arith) (omega arith)
-    (agree test.0 (g.met.F.Field.equality c.index-list-power.result c.zero.result test.0 test.1) test.2 c.zero.ensures)
+    (agree _ (g.met.F.Field.equality c.index-list-power.result c.zero.result _ refl) test c.zero.ensures)
     c.loop-power.invariant
