@@ -1,7 +1,7 @@
 -- A column says the number that was written into it, if the number has no more digits than the column has places.
-use Rattle.std.proofs.Common.{◌≡◌, ℕ, zero, suc, ◌+◌, ◌-◌, ◌*◌, ◌/◌, ◌%◌, ◌^◌, ◌<◌, true, false, cond, eqb, leb, ◌⊎◌, List, [], ◌∷◌, ◌++◌, Some, None, Option, sym, refl, ap, ◌∙◌, inl, inr, append_assoc, mod-lt, div-lt_iff_lt-mul, pow-suc, div-add-mod', arith}
+use Rattle.std.proofs.Common.{◌≡◌, ℕ, zero, suc, ◌+◌, ◌-◌, ◌*◌, ◌/◌, ◌%◌, ◌^◌, ◌<◌, cond, eqb, List, [], ◌∷◌, ◌++◌, Some, sym, refl, ap, ◌∙◌, inl, inr, append_assoc, mod-lt, div-lt_iff_lt-mul, pow-suc, div-add-mod', arith}
 use native.Mathlib.Nat.{pow-zero}
-use Rattle.std.proofs.lemmas.Bool.{cond-true, cond-false, eq-eqb, ne_eqb, cases_eq, le-leb, and_from}
+use Rattle.std.proofs.lemmas.Bool.{cond-true, cond-false, ne_eqb, cases_eq, le-leb, and_from}
 use Rattle.output.specs.Columns.{front, column, is_digit, digits_after, read_column}
 use Rattle.output.proofs.ColumnSteps.{column_suc}
 

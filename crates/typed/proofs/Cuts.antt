@@ -1,5 +1,5 @@
 -- What stands at the front of a line is its first piece, and what follows has the others.
-use Rattle.std.proofs.Common.{◌≡◌, ℕ, zero, suc, ◌+◌, ◌<◌, Bool, true, false, cond, ◌||◌, eqb, List, [], ◌∷◌, ◌++◌, length, get_or, take, drop, sym, refl, ap, ◌∙◌, append_assoc, append-nil, arith}
+use Rattle.std.proofs.Common.{◌≡◌, ℕ, Bool, true, false, eqb, List, [], ◌∷◌, ◌++◌, length, get_or, take, drop, sym, refl, ap, ◌∙◌, append_assoc, append-nil, arith}
 use Rattle.std.proofs.lemmas.Bool.{both_ways, eqb-true, eq-eqb, ne_eqb, or_from}
 use Rattle.std.proofs.lemmas.List.{nil_from_length}
 use Rattle.typed.specs.Pieces.{Part, group, remark, closed, pieces, pieces_after, spaces, ends_group, group_length}

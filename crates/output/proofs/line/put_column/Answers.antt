@@ -1,6 +1,4 @@
-use Rattle.std.proofs.Common.{◌≡◌, ℕ, ◌+◌, ◌-◌, ◌≤◌, length, take, drop, sym, ap, ◌∙◌, arith, rules}
-use Rattle.std.proofs.lemmas.List.{length-take-le, length-drop}
-use Rattle.output.specs.Columns.{column}
+use Rattle.std.proofs.Common.{◌≡◌, length, arith, rules}
 use Rattle.output.proofs.SideBySide.{put_between}
 use Rattle.output.proofs.line.put_column.Goals as goal
 

@@ -1,4 +1,4 @@
-use Rattle.std.proofs.Common.{◌≡◌, List, [], ◌∷◌, ◌++◌, length, drop, set, ap, ◌∙◌, arith, rules}
+use Rattle.std.proofs.Common.{◌≡◌, [], ◌∷◌, ◌++◌, length, drop, set, ap, ◌∙◌, arith, rules}
 use Rattle.std.proofs.lemmas.List.{drop-set, drop_all}
 use Rattle.output.specs.Columns.{column}
 use Rattle.output.specs.Lines.{output_line}

@@ -1,8 +1,8 @@
-use Rattle.std.proofs.Common.{◌≡◌, ℕ, ◌-◌, List, length, take, drop, Some, sym, ap, ◌∙◌, arith}
+use Rattle.std.proofs.Common.{◌≡◌, ℕ, ◌-◌, length, take, drop, Some, sym, ap, ◌∙◌, arith}
 use Rattle.std.specs.List.{slice_get}
 use Rattle.std.proofs.lemmas.List.{drop_all, nil_from_length, take_rest}
 use Rattle.std.proofs.lemmas.Bool.{eqb-true, eqb-false}
-use Rattle.typed.specs.Pieces.{Part, group, remark, pieces, group_length}
+use Rattle.typed.specs.Pieces.{group, remark, pieces, group_length}
 use Rattle.typed.proofs.Cuts.{no_piece, a_remark, a_group}
 use Rattle.typed.proofs.pieces.Pieces.next.Goals as goal
 
