@@ -2,7 +2,6 @@
 use Rattle.std.proofs.Common.{◌≡◌, ℕ, ◌≤◌, Bool, true, false, cond, leb, ◌⊎◌, List, length, Some, None, Ok, Err, Option, refl, ap, subst, inl, inr, arith}
 use native.Mathlib.Decide.{ℕ_discrete}
 use Rattle.algebra.proofs.Near.{one_more_doubt_by}
-use Rattle.book.specs.Book as book
 use Rattle.book.specs.Book.{Book, mark, after}
 use Rattle.book.specs.Calls.{Answer, Follows, Mends, said, lists, settled, done, listed, doubt, solve, settle, barred, none_near, one_near, doubting, solves, settles}
 use Rattle.book.specs.Codes.{Rows, Lawful, Near, Sound}

@@ -1,8 +1,8 @@
 -- An engine takes little memory. Assumes nothing.
-use Rattle.std.proofs.Common.{◌≡◌, ℕ, ◌+◌, ◌-◌, ◌*◌, ◌%◌, ◌<◌, ◌≤◌, max, sym, subst, mod-lt, arith, w8, w16, w32, w64}
+use Rattle.std.proofs.Common.{ℕ, ◌+◌, ◌-◌, ◌*◌, ◌%◌, ◌<◌, ◌≤◌, max, sym, subst, mod-lt, arith, w8, w16, w32, w64}
 use mir.Syntax.{Ty, Width, w128}
 use mir.Val.{bytes}
-use prog.Memory.{size, align, pad, up}
+use prog.Memory.{size, align, up}
 use prog.Align.{align_w, align-bytes}
 
 bytes_small : (w : Width) → (0 < bytes w) × (bytes w ≤ 16)

@@ -3,9 +3,8 @@ use Rattle.std.proofs.Common.{◌≡◌, ℕ, Bool, List, length, ap, ◌∙◌,
 use Rattle.algebra.specs.Code.{Code, bound}
 use Rattle.algebra.specs.Decode.{error_locator, errata_locator, errata_evaluator}
 use Rattle.algebra.specs.Field.{FieldOn, pow}
-use Rattle.algebra.specs.Poly.{coeff, eval, tab}
+use Rattle.algebra.specs.Poly.{coeff, tab}
 use Rattle.algebra.specs.Rows.{Book, symbols, doubted_places, positions, syndrome, locator_of, doubted_positions, found_locator}
-use Rattle.algebra.specs.Series.{deriv}
 use Rattle.algebra.proofs.Tab.{length_tab}
 use Rattle.decoding.proofs.Locates.{error_locator_tab, errata_locator_tab, errata_evaluator_tab}
 

@@ -1,5 +1,5 @@
 -- A residue less the target, entry by entry in sixteen entries, and its values at the roots. Assumes nothing.
-use Rattle.std.proofs.Common.{◌≡◌, ℕ, ◌+◌, ◌-◌, ◌<◌, ◌≤◌, List, ◌++◌, map, length, get_or, take, drop, set, replicate, sym, refl, ap, ◌∙◌, ap₂, arith}
+use Rattle.std.proofs.Common.{◌≡◌, ℕ, ◌+◌, ◌-◌, ◌<◌, ◌≤◌, List, ◌++◌, map, length, get_or, take, drop, set, replicate, sym, ap, ◌∙◌, ap₂, arith}
 use Rattle.std.proofs.lemmas.List.{take_at, get_or_default}
 use Rattle.algebra.specs.Field.{FieldOn, pow}
 use Rattle.algebra.specs.Poly.{coeff, eval, poly_sub, tab}

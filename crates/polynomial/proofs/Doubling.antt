@@ -1,5 +1,5 @@
 -- A multiple by doubling: a turn keeps the sum and the multiple that is left. Assumes nothing.
-use Rattle.std.proofs.Common.{◌≡◌, ℕ, zero, suc, ◌+◌, ◌/◌, ◌%◌, ◌⊎◌, sym, refl, ap, ◌∙◌, ap₂, inl, inr, suc-add, zero-add, arith}
+use Rattle.std.proofs.Common.{◌≡◌, ℕ, zero, suc, ◌+◌, ◌/◌, ◌%◌, ◌⊎◌, sym, ap, ◌∙◌, ap₂, inl, inr, suc-add, zero-add, arith}
 use Rattle.algebra.specs.Field.{FieldOn, multiple}
 use Rattle.algebra.proofs.Laws.{ring, add_zero}
 

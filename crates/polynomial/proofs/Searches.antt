@@ -1,5 +1,5 @@
 -- A search for roots, index by index. Assumes nothing.
-use Rattle.std.proofs.Common.{◌≡◌, ℕ, zero, suc, ◌+◌, ◌-◌, ◌<◌, ◌≤◌, List, [], ◌∷◌, length, drop, sym, refl, ap, ◌∙◌, ap₂, arith}
+use Rattle.std.proofs.Common.{◌≡◌, ℕ, zero, suc, ◌+◌, ◌-◌, ◌<◌, List, [], ◌∷◌, length, drop, sym, refl, ap, ◌∙◌, ap₂, arith}
 use Rattle.algebra.specs.Field.{FieldOn, pow}
 use Rattle.algebra.specs.Poly.{eval}
 use Rattle.polynomial.specs.Roots.{pick, roots_from, roots, left_over, coming, Stepped}

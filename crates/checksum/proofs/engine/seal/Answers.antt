@@ -1,5 +1,5 @@
-use Rattle.std.proofs.Common.{◌≡◌, ap, ◌∙◌, rules}
-use Rattle.algebra.specs.Code.{closing, seal}
+use Rattle.std.proofs.Common.{ap, ◌∙◌, rules}
+use Rattle.algebra.specs.Code.{closing}
 use Rattle.algebra.proofs.Sealing.{seals}
 use Rattle.checksum.specs.Engine.{padded}
 use Rattle.checksum.proofs.Sizes.{engine_fits, sixteen_fit}

@@ -1,4 +1,4 @@
-use Rattle.std.proofs.Common.{◌≡◌, suc, ◌+◌, ◌<◌, min, max, length, sym, refl, ap, ◌∙◌, ap₂, arith}
+use Rattle.std.proofs.Common.{◌≡◌, min, length, sym, ◌∙◌, ap₂, arith}
 use Rattle.algebra.specs.Poly.{coeff, poly_add}
 use Rattle.algebra.proofs.Poly.{length_poly_add_max}
 use Rattle.fieldvec.proofs.Places.{tab_poly_add}

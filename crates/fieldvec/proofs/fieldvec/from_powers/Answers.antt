@@ -1,4 +1,4 @@
-use Rattle.std.proofs.Common.{◌≡◌, suc, ◌+◌, ◌<◌, ◌≤◌, length, sym, refl, ap, ◌∙◌, subst, ap₂, add-one, arith}
+use Rattle.std.proofs.Common.{◌≡◌, ◌+◌, ◌<◌, ◌≤◌, length, sym, refl, ap, ◌∙◌, add-one, arith}
 use Rattle.algebra.specs.Field.{pow}
 use Rattle.algebra.specs.Poly.{tab}
 use Rattle.algebra.proofs.Tab.{length_tab}

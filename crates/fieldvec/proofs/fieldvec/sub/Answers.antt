@@ -1,4 +1,4 @@
-use Rattle.std.proofs.Common.{◌≡◌, suc, ◌+◌, ◌<◌, min, max, length, sym, refl, ap, ◌∙◌, ap₂, arith}
+use Rattle.std.proofs.Common.{◌≡◌, min, length, sym, ◌∙◌, ap₂, arith}
 use Rattle.algebra.specs.Poly.{coeff, poly_sub}
 use Rattle.fieldvec.proofs.Places.{tab_poly_sub, length_poly_sub_max}
 use Rattle.fieldvec.proofs.Filled.{filled_more, filled_all, refuses, refuses_list, accepts, accepts_list}

@@ -1,4 +1,4 @@
-use Rattle.std.proofs.Common.{◌≡◌, ◌+◌, ◌*◌, ◌<◌, ◌≤◌, ◌++◌, length, drop, replicate, Ok, Err, sym, refl, ap, ◌∙◌, ap₂, arith}
+use Rattle.std.proofs.Common.{◌≡◌, ◌+◌, ◌*◌, ◌<◌, ◌≤◌, ◌++◌, length, drop, replicate, Ok, Err, ap, ◌∙◌, arith}
 use Rattle.algebra.specs.Poly.{coeff}
 use Rattle.algebra.proofs.Berlekamp.{shortest}
 use Rattle.lfsr.specs.Registers.{connection}

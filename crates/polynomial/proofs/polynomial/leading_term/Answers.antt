@@ -1,4 +1,4 @@
-use Rattle.std.proofs.Common.{◌≡◌, ◌<◌, length, Ok, ap, ◌∙◌, arith, rules}
+use Rattle.std.proofs.Common.{◌<◌, length, Ok, ap, ◌∙◌, arith, rules}
 use Rattle.std.proofs.lemmas.List.{get_or_default}
 use Rattle.algebra.specs.Poly.{coeff}
 use Rattle.polynomial.specs.Lists.{leading}

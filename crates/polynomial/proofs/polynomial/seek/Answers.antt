@@ -1,4 +1,4 @@
-use Rattle.std.proofs.Common.{◌≡◌, sym, refl, ap, ◌∙◌, arith}
+use Rattle.std.proofs.Common.{ap, ◌∙◌, arith}
 use Rattle.field.proofs.Equality.{equal, unequal}
 use Rattle.polynomial.specs.Roots.{left_over}
 use Rattle.polynomial.proofs.Searches.{passes}

@@ -1,4 +1,4 @@
-use Rattle.std.proofs.Common.{◌≡◌, ℕ, ◌+◌, ◌-◌, ◌<◌, ◌≤◌, max, ◌++◌, length, drop, sym, refl, ap, ◌∙◌, ap₂, arith}
+use Rattle.std.proofs.Common.{◌≡◌, ◌+◌, ◌-◌, ◌<◌, max, ◌++◌, length, drop, sym, refl, ap, ◌∙◌, ap₂, arith}
 use Rattle.algebra.specs.Poly.{tab, coeff}
 use Rattle.algebra.specs.Series.{times}
 use Rattle.polynomial.specs.Lists.{degree, convolved}

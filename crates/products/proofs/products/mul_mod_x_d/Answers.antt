@@ -1,5 +1,5 @@
-use Rattle.std.proofs.Common.{◌≡◌, ℕ, ◌+◌, ◌-◌, ◌<◌, ◌≤◌, min, ◌++◌, length, drop, sym, refl, ap, ◌∙◌, ap₂, arith}
-use Rattle.algebra.specs.Poly.{tab, coeff}
+use Rattle.std.proofs.Common.{◌≡◌, ◌+◌, min, ◌++◌, length, drop, sym, ap, ◌∙◌, arith}
+use Rattle.algebra.specs.Poly.{coeff}
 use Rattle.algebra.specs.Series.{times}
 use Rattle.algebra.proofs.Tab.{length_tab}
 use Rattle.polynomial.specs.Lists.{degree, product}

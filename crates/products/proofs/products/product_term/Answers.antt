@@ -1,4 +1,4 @@
-use Rattle.std.proofs.Common.{◌≡◌, ◌<◌, ◌≤◌, length, ap, ◌∙◌, arith, take_all}
+use Rattle.std.proofs.Common.{◌<◌, ◌≤◌, length, ap, ◌∙◌, arith, take_all}
 use Rattle.algebra.specs.Poly.{coeff}
 use Rattle.algebra.specs.Series.{times}
 use Rattle.products.proofs.Terms.{times_cut, term_more, term_past}

@@ -1,4 +1,4 @@
-use Rattle.std.proofs.Common.{◌≡◌, ℕ, ◌+◌, refl, arith}
+use Rattle.std.proofs.Common.{ℕ, ◌+◌, refl, arith}
 use Rattle.algebra.specs.Poly.{tab, coeff}
 use Rattle.algebra.specs.Series.{times}
 use Rattle.fieldvec.proofs.Filled.{filled_more, filled_all}

@@ -1,5 +1,4 @@
-use Rattle.std.proofs.Common.{◌≡◌, ℕ, ◌+◌, ◌-◌, ◌<◌, ◌≤◌, List, length, get_or, take, set, sym, refl, ap, ◌∙◌, ap₂, arith, length-set}
-use Rattle.algebra.specs.Code.{modulo}
+use Rattle.std.proofs.Common.{◌≡◌, ℕ, ◌+◌, ◌-◌, ◌<◌, ◌≤◌, length, get_or, take, set, sym, ap, ◌∙◌, ap₂, arith, length-set}
 use Rattle.checksum.proofs.Feeds.{feed, fed, fed_more, fed_all, feed_modulo}
 use Rattle.checksum.proofs.engine.Engine.input_fe.Goals as goal
 

@@ -1,4 +1,4 @@
-use Rattle.std.proofs.Common.{◌≡◌, ◌≤◌, length}
+use Rattle.std.proofs.Common.{◌≡◌, length}
 use Rattle.checksum.proofs.Feeds.{feed, fed}
 use Rattle.checksum.proofs.engine.Engine.input_fe.Given as goal
 

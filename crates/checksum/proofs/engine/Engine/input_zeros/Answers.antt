@@ -1,4 +1,4 @@
-use Rattle.std.proofs.Common.{◌≡◌, ℕ, ◌-◌, take, replicate, ap, ◌∙◌, ap₂, arith}
+use Rattle.std.proofs.Common.{◌≡◌, ◌-◌, take, replicate, ap, ◌∙◌, ap₂, arith}
 use Rattle.algebra.specs.Code.{checks, residue_from}
 use Rattle.checksum.specs.Engine.{held}
 use Rattle.checksum.proofs.Feeds.{take_replicate}

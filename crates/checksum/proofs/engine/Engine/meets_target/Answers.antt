@@ -1,7 +1,6 @@
-use Rattle.std.proofs.Common.{◌≡◌, ℕ, ◌<◌, ◌≤◌, Bool, true, false, not, length, get_or, sym, refl, ap, ◌∙◌, arith, below_more}
+use Rattle.std.proofs.Common.{◌<◌, length, sym, refl, ◌∙◌, arith, below_more}
 use Rattle.std.proofs.lemmas.List.{get_or_default}
 use Rattle.algebra.specs.Code.{checks}
-use Rattle.algebra.specs.Poly.{coeff}
 use Rattle.checksum.proofs.Alike.{ne_differs, ne_same, false_ne_true, alike_front, alike_at}
 use Rattle.checksum.proofs.engine.Engine.meets_target.Goals as goal
 

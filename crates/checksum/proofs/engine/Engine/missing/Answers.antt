@@ -1,8 +1,7 @@
-use Rattle.std.proofs.Common.{◌≡◌, ℕ, ◌+◌, ◌-◌, ◌<◌, ◌≤◌, List, reverse, length, get_or, set, replicate, sym, refl, ap, ◌∙◌, ap₂, arith}
+use Rattle.std.proofs.Common.{◌≡◌, ℕ, ◌-◌, ◌<◌, ◌≤◌, length, get_or, set, replicate, sym, ap, ◌∙◌, ap₂, arith}
 use Rattle.algebra.specs.Code.{checks}
-use Rattle.algebra.specs.Poly.{coeff, poly_sub}
-use Rattle.checksum.specs.Engine.{held}
-use Rattle.checksum.proofs.Fills.{filled, missing_more, missing_all}
+use Rattle.algebra.specs.Poly.{coeff}
+use Rattle.checksum.proofs.Fills.{missing_more, missing_all}
 use Rattle.checksum.proofs.engine.Engine.missing.Goals as goal
 
 pub loop-i-init : goal.loop-i-init

@@ -1,4 +1,4 @@
-use Rattle.std.proofs.Common.{◌≡◌, ◌∷◌, take, replicate, ◌∙◌, ap₂}
+use Rattle.std.proofs.Common.{◌∷◌, take, replicate, ◌∙◌, ap₂}
 use Rattle.algebra.specs.Code.{checks}
 use Rattle.checksum.proofs.Feeds.{front_one}
 use Rattle.checksum.proofs.engine.Engine.new.Goals as goal

@@ -1,4 +1,4 @@
-use Rattle.std.proofs.Common.{◌≡◌, List, ◌∷◌, reverse, sym, ap, ◌∙◌, subst}
+use Rattle.std.proofs.Common.{◌≡◌, ◌∷◌, reverse, sym, ap, ◌∙◌, subst}
 use Rattle.algebra.specs.Code.{residue, residue_from}
 use Rattle.algebra.specs.Remainder.{Remainder}
 use Rattle.algebra.proofs.Remainder.{residue_remainder}
