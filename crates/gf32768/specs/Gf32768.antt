@@ -1,17 +1,19 @@
 -- GF(32768) over the struct itself, as triples over GF(32) with ζ³ = 1 + ζ. Assumes nothing.
 --   gf32768           its operations with their laws
+--   fe32768_decides   a test of the three parts tells whether two elements are one
 --   gf32768_add       the sum is that of triples
 --   gf32768_mul       the product is that of triples
 --   gf32768_numbers   c0 + c1 ζ + c2 ζ² has the number c0 + 32 c1 + 1024 c2
 --   gf32768_units     a generator of the elements but ZERO
 --   lift32768         where an element of GF(32) stands in it
-use Rattle.std.specs.Prelude.{◌≡◌, ℕ, ◌+◌, ◌*◌, ◌/◌, ◌%◌, [], ◌∷◌, refl}
+use Rattle.std.specs.Prelude.{◌≡◌, ℕ, ◌+◌, ◌*◌, ◌/◌, ◌%◌, ◌==◌, ◌&&◌, [], ◌∷◌, refl, Decides}
 use Rattle.std.proofs.Common.{ap, ◌∙◌, arith, lit<, lit≤}
+use Rattle.std.proofs.lemmas.Bool.Decides.{Decides-and, Decides-like}
 use Rattle.algebra.specs.Field.{FieldOn, Numbers, Units}
 use Rattle.algebra.specs.Triple.{Triple, plus, times}
 use Rattle.algebra.proofs.Cubic.{cubic}
 use Rattle.algebra.proofs.Carried.{carried}
-use Rattle.gf32.specs.Gf32.{gf32, gf32_numbers, fe}
+use Rattle.gf32.specs.Gf32.{gf32, gf32_numbers, fe, fe_decides}
 use Rattle.gf32.specs.declared.gf32.Fe32.{Fe32}
 use Rattle.gf32_ext.specs.Irreducible.{no_cube}
 use Rattle.gf32768.specs.declared.fe32768.Fe32768.{Fe32768}
@@ -24,6 +26,12 @@ fe32768_path x y p q r = λ i. record { c0 = p i; c1 = q i; c2 = r i }
 
 abbrev pub triple : Fe32768 → Triple Fe32
 triple x = record { c0 = x.c0; c1 = x.c1; c2 = x.c2 }
+
+pub fe32768_decides : (x y : Fe32768) → Decides (x.c0.value == y.c0.value && (x.c1.value == y.c1.value && x.c2.value == y.c2.value)) (x ≡ y)
+fe32768_decides x y =
+    let upper = Decides-and _ _ (fe_decides x.c1 y.c1) (fe_decides x.c2 y.c2) in
+    let parts = Decides-and _ _ (fe_decides x.c0 y.c0) upper in
+    Decides-like _ (λ p. fe32768_path x y p.0 p.1.0 p.1.1) (λ e. (ap (λ z. z.c0) e, (ap (λ z. z.c1) e, ap (λ z. z.c2) e))) parts
 
 unfoldable pub gf32768 : FieldOn Fe32768
 gf32768 = carried (cubic gf32 no_cube) triple (λ t. fe32768 t.c0 t.c1 t.c2) (λ x. refl) (λ t. refl)

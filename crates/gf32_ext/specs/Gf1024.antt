@@ -1,17 +1,19 @@
 -- GF(1024) over the struct itself, as pairs over GF(32) with ζ² = 1 + ζ. Assumes nothing.
 --   gf1024           its operations with their laws
+--   fe1024_decides   a test of both parts tells whether two elements are one
 --   gf1024_add       the sum is that of pairs
 --   gf1024_mul       the product is that of pairs
 --   gf1024_numbers   c0 + c1 ζ has the number c0 + 32 c1
 --   gf1024_units     a generator of the elements but ZERO
 --   lift1024         where an element of GF(32) stands in it
-use Rattle.std.specs.Prelude.{◌≡◌, ◌+◌, ◌*◌, ◌/◌, ◌%◌, [], ◌∷◌, refl}
+use Rattle.std.specs.Prelude.{◌≡◌, ◌+◌, ◌*◌, ◌/◌, ◌%◌, ◌==◌, ◌&&◌, [], ◌∷◌, refl, Decides}
 use Rattle.std.proofs.Common.{ap, ap₂, ◌∙◌, arith, lit<, lit≤}
+use Rattle.std.proofs.lemmas.Bool.Decides.{Decides-and, Decides-like}
 use Rattle.algebra.specs.Field.{FieldOn, Numbers, Units}
 use Rattle.algebra.specs.Pair.{Pair, plus, times}
 use Rattle.algebra.proofs.Quadratic.{quadratic}
 use Rattle.algebra.proofs.Carried.{carried}
-use Rattle.gf32.specs.Gf32.{gf32, gf32_numbers, fe}
+use Rattle.gf32.specs.Gf32.{gf32, gf32_numbers, fe, fe_decides}
 use Rattle.gf32.specs.declared.gf32.Fe32.{Fe32}
 use Rattle.gf32_ext.specs.Irreducible.{no_square}
 use Rattle.gf32_ext.specs.declared.fe1024.Fe1024.{Fe1024}
@@ -21,6 +23,11 @@ fe1024 a b = record { c0 = a; c1 = b }
 
 abbrev pub pair : Fe1024 → Pair Fe32
 pair x = record { c0 = x.c0; c1 = x.c1 }
+
+pub fe1024_decides : (x y : Fe1024) → Decides (x.c0.value == y.c0.value && x.c1.value == y.c1.value) (x ≡ y)
+fe1024_decides x y =
+    let parts = Decides-and _ _ (fe_decides x.c0 y.c0) (fe_decides x.c1 y.c1) in
+    Decides-like _ (λ p. ap₂ fe1024 p.0 p.1) (λ e. (ap (λ z. z.c0) e, ap (λ z. z.c1) e)) parts
 
 unfoldable pub gf1024 : FieldOn Fe1024
 gf1024 = carried (quadratic gf32 gf32.𝟙 gf32.𝟙 no_square) pair (λ p. fe1024 p.c0 p.c1) (λ x. refl) (λ p. refl)

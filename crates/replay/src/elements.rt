@@ -9,7 +9,7 @@ use std::alloc::Global;
 
 /// The element whose number the text is, refused where it is no number below the field's size.
 pub fn read_element<F: Field>(text: &str) -> anyhow::Result<F>
-    ensures { OkIff result (Readable numbers text.now) (element_in numbers text.now) }
+    ensures { OkIff result (Readable F.numbers text.now) (element_in F.numbers text.now) }
 {
     match F::from_number(text.parse::<u16>()?) {
         Some(element) => Ok(element),
@@ -19,7 +19,7 @@ pub fn read_element<F: Field>(text: &str) -> anyhow::Result<F>
 
 /// The element's number, where memory suffices.
 pub fn write_element<F: Field>(heap: Global, element: F) -> anyhow::Result<String>
-    ensures { IfOk result (λ text. string_bytes text ≡ decimal (numbers.number element)) }
+    ensures { IfOk result (λ text. string_bytes text ≡ decimal (F.numbers.number element)) }
 {
     let number = element.to_number();
     Ok(format!(in heap; "{number}")?)
@@ -27,7 +27,7 @@ pub fn write_element<F: Field>(heap: Global, element: F) -> anyhow::Result<Strin
 
 /// The elements between commas. A single - is the empty list.
 pub fn read_elements<F: Field>(heap: Global, text: &str) -> anyhow::Result<Vec<F>>
-    ensures { IfOk result (λ elements. ReadAs numbers text.now elements.items) }
+    ensures { IfOk result (λ elements. ReadAs F.numbers text.now elements.items) }
 {
     let mut elements = Vec::new(heap);
     if text == "-" {
@@ -41,7 +41,7 @@ pub fn read_elements<F: Field>(heap: Global, text: &str) -> anyhow::Result<Vec<F
 
 /// The elements' numbers with commas between, where memory suffices. A single - is the empty list.
 pub fn write_elements<F: Field>(heap: Global, elements: &[F]) -> anyhow::Result<String>
-    ensures { IfOk result (λ text. string_bytes text ≡ listed (map numbers.number elements.now)) }
+    ensures { IfOk result (λ text. string_bytes text ≡ listed (map F.numbers.number elements.now)) }
 {
     let Some((first, rest)) = elements.split_first() else {
         return Ok(String::from_str(heap, "-")?);

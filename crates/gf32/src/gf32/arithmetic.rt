@@ -1,8 +1,7 @@
 // GF(32) is a field, and a field above itself. Products and inverses go by logarithms to the base t.
-ghost use Rattle.gf32.specs.Gf32.{gf32, gf32_numbers, gf32_units, fe_path};
+ghost use Rattle.gf32.specs.Gf32.{gf32, gf32_numbers, gf32_units, fe_decides};
 ghost use Rattle.gf32.specs.Cyclic.{gf32_cyclic, gf32_doubling};
-ghost use Rattle.std.proofs.Common.{ap};
-ghost use Rattle.gf32.specs.declared.gf32.Fe32.{Fe32};
+ghost use Rattle.std.proofs.lemmas.Bool.Decides.{Decides-at};
 
 use super::Fe32;
 use super::logarithms::{logarithm, power_of_t};
@@ -25,7 +24,7 @@ impl Field for Fe32 {
 
     ghost doubling = { gf32_doubling };
 
-    ghost equality = { λ x y b e. (λ t. fe_path x y (e.0 t), λ p. e.1 (ap (λ (z : Fe32). z.value) p)) };
+    ghost equality = { λ x y b e. Decides-at _ _ e (fe_decides x y) };
 
     fn zero() -> Fe32 {
         Fe32::ZERO

@@ -1,11 +1,7 @@
 // GF(32768) is a field above GF(32).
-ghost use Rattle.gf32768.specs.Gf32768.{gf32768, gf32768_numbers, gf32768_units, lift32768, fe32768_path};
+ghost use Rattle.gf32768.specs.Gf32768.{gf32768, gf32768_numbers, gf32768_units, lift32768, fe32768_decides};
 ghost use Rattle.gf32768.specs.Laws32768.{gf32768_cyclic, gf32768_doubling};
-ghost use Rattle.std.proofs.Common.{ap};
-ghost use Rattle.std.specs.Prelude.{true, false, refl};
-ghost use Rattle.std.proofs.lemmas.Bool.{false≢true};
-ghost use Rattle.gf32.specs.Gf32.{fe_path};
-ghost use Rattle.gf32768.specs.declared.fe32768.Fe32768.{Fe32768};
+ghost use Rattle.std.proofs.lemmas.Bool.Decides.{Decides-at};
 
 use super::Fe32768;
 use field::fault::FieldFault;
@@ -28,11 +24,7 @@ impl Field for Fe32768 {
 
     ghost doubling = { gf32768_doubling };
 
-    ghost equality = { λ x y.
-        elim [
-          | true ↦ λ e. (λ _. fe32768_path _ _ (fe_path _ _ (e.0.0 refl)) (fe_path _ _ (e.1.0.0 refl)) (fe_path _ _ (e.1.1.0 refl)), λ _. refl)
-          | false ↦ λ e. (λ t. absurd (false≢true t), λ p. absurd (e (λ d. false≢true (d.1 (ap (λ (z : Fe32768). z.c0.value) p))) (λ d. false≢true (d.1 (ap (λ (z : Fe32768). z.c1.value) p))) (λ d. false≢true (d.1 (ap (λ (z : Fe32768). z.c2.value) p)))))
-        ] };
+    ghost equality = { λ x y b e. Decides-at _ _ e (fe32768_decides x y) };
 
     fn zero() -> Fe32768 {
         Fe32768::ZERO

@@ -1,11 +1,7 @@
 // GF(1024) is a field above GF(32).
-ghost use Rattle.gf32_ext.specs.Gf1024.{gf1024, gf1024_numbers, gf1024_units, lift1024, fe1024};
+ghost use Rattle.gf32_ext.specs.Gf1024.{gf1024, gf1024_numbers, gf1024_units, lift1024, fe1024_decides};
 ghost use Rattle.gf32_ext.specs.Laws1024.{gf1024_cyclic, gf1024_doubling};
-ghost use Rattle.std.proofs.Common.{ap, ap₂};
-ghost use Rattle.std.specs.Prelude.{true, false, refl};
-ghost use Rattle.std.proofs.lemmas.Bool.{false≢true};
-ghost use Rattle.gf32.specs.Gf32.{fe_path};
-ghost use Rattle.gf32_ext.specs.declared.fe1024.Fe1024.{Fe1024};
+ghost use Rattle.std.proofs.lemmas.Bool.Decides.{Decides-at};
 
 use super::Fe1024;
 use field::fault::FieldFault;
@@ -28,11 +24,7 @@ impl Field for Fe1024 {
 
     ghost doubling = { gf1024_doubling };
 
-    ghost equality = { λ x y.
-        elim [
-          | true ↦ λ e. (λ _. ap₂ fe1024 (fe_path _ _ (e.0.0 refl)) (fe_path _ _ (e.1.0 refl)), λ _. refl)
-          | false ↦ λ e. (λ t. absurd (false≢true t), λ p. absurd (e (λ d. false≢true (d.1 (ap (λ (z : Fe1024). z.c0.value) p))) (λ d. false≢true (d.1 (ap (λ (z : Fe1024). z.c1.value) p)))))
-        ] };
+    ghost equality = { λ x y b e. Decides-at _ _ e (fe1024_decides x y) };
 
     fn zero() -> Fe1024 {
         Fe1024::ZERO

@@ -1,6 +1,6 @@
 use Rattle.std.proofs.Common.{◌≡◌, true, [], ◌∷◌, vec_items, refl}
 use Rattle.std.proofs.lemmas.Slice.{pushed}
-use Rattle.std.proofs.lemmas.Bool.{false≢true}
+use Rattle.std.specs.Cmp.Lexicographic.{other_text}
 use Rattle.std.specs.Str.Iter.{split_text, split_has_more, split_pattern}
 use Rattle.replay.proofs.Parts.{coming_live}
 use Rattle.replay.proofs.Readings.{read_more, read_all}
@@ -61,4 +61,4 @@ returns g c =
     c.loop-part.invariant.0
     c.in-None.ensures.steps.0
     whole
-    (λ minus. false≢true (c.if-eq.ensures.1 minus))
+    (other_text text (45 ∷ []) c.if-eq.ensures)

@@ -1,5 +1,6 @@
-use Rattle.std.proofs.Common.{sym, refl, ap}
+use Rattle.std.proofs.Common.{sym, refl, ap, ◌∙◌}
 use Rattle.std.proofs.lemmas.Bool.{both_ways}
+use Rattle.std.proofs.lemmas.Bool.Decides.{Decides-eqb}
 use Rattle.gf32.specs.Gf32.{gf32, fe_path}
 use Rattle.gf32768.specs.Gf32768.{fe32768_path}
 use Rattle.gf32768.specs.declared.fe32768.Fe32768.{Fe32768}
@@ -9,13 +10,16 @@ use Rattle.gf32768.proofs.fe32768.arithmetic.Fe32768ExtensionField.drop_to_base.
 pub returns-then-eq-2 : goal.returns-then-eq-2
 unfolding gf32
 returns-then-eq-2 c =
-    fe32768_path _ _ refl (fe_path _ _ (sym (c.eq.ensures.0 c.if-eq.true))) (fe_path _ _ (sym (c.eq-then-eq.ensures.0 c.if-eq-2.true)))
+    let x = c.args.self in
+    let middle = (Decides-eqb x.c1.value 0).0 (sym c.eq.ensures ∙ c.if-eq.true) in
+    let high = (Decides-eqb x.c2.value 0).0 (sym c.eq-then-eq.ensures ∙ c.if-eq-2.true) in
+    fe32768_path _ _ refl (fe_path _ _ (sym middle)) (fe_path _ _ (sym high))
 
 pub returns-else-eq : goal.returns-else-eq
 unfolding gf32
 returns-else-eq c = λ b e.
     elim c.else-eq.branch [
-      | else-eq-via-else-eq w ↦ both_ways c.eq.result w.if-eq.false (c.eq.ensures.1 (sym (ap (λ (x : Fe32768). x.c1.value) e)))
+      | else-eq-via-else-eq w ↦ both_ways c.eq.result w.if-eq.false (c.eq.ensures ∙ (Decides-eqb c.args.self.c1.value 0).1 (sym (ap (λ (x : Fe32768). x.c1.value) e)))
       | else-eq-via-then-eq+else-eq-2 w ↦
-          both_ways w.eq-then-eq.result w.if-eq-2.false (w.eq-then-eq.ensures.1 (sym (ap (λ (x : Fe32768). x.c2.value) e)))
+          both_ways w.eq-then-eq.result w.if-eq-2.false (w.eq-then-eq.ensures ∙ (Decides-eqb c.args.self.c2.value 0).1 (sym (ap (λ (x : Fe32768). x.c2.value) e)))
     ]

@@ -3,21 +3,21 @@ use Rattle.gf32.specs.Gf32.{gf32_numbers}
 use Rattle.gf32768.specs.Gf32768.{gf32768_numbers}
 use Rattle.gf32768.proofs.fe32768.arithmetic.Fe32768Field.to_number.Goals as goal
 
-pub overflow-mul-result : goal.overflow-mul-result
+pub overflow_mul-result : goal.overflow_mul-result
 unfolding gf32_numbers
-overflow-mul-result c = omega arith
+overflow_mul-result c = omega arith
 
-pub overflow-add-result : goal.overflow-add-result
+pub overflow_add-result : goal.overflow_add-result
 unfolding gf32_numbers
-overflow-add-result c = omega arith
+overflow_add-result c = omega arith
 
-pub overflow-mul-result-2 : goal.overflow-mul-result-2
+pub overflow_mul-result-2 : goal.overflow_mul-result-2
 unfolding gf32_numbers
-overflow-mul-result-2 c = omega arith
+overflow_mul-result-2 c = omega arith
 
-pub overflow-add-result-2 : goal.overflow-add-result-2
+pub overflow_add-result-2 : goal.overflow_add-result-2
 unfolding gf32_numbers
-overflow-add-result-2 c = omega arith
+overflow_add-result-2 c = omega arith
 
 pub returns : goal.returns
 unfolding gf32768_numbers

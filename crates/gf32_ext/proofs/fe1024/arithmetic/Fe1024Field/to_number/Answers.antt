@@ -3,13 +3,13 @@ use Rattle.gf32.specs.Gf32.{gf32_numbers}
 use Rattle.gf32_ext.specs.Gf1024.{gf1024_numbers}
 use Rattle.gf32_ext.proofs.fe1024.arithmetic.Fe1024Field.to_number.Goals as goal
 
-pub overflow-mul-result : goal.overflow-mul-result
+pub overflow_mul-result : goal.overflow_mul-result
 unfolding gf32_numbers
-overflow-mul-result c = omega arith
+overflow_mul-result c = omega arith
 
-pub overflow-add-result : goal.overflow-add-result
+pub overflow_add-result : goal.overflow_add-result
 unfolding gf32_numbers
-overflow-add-result c = omega arith
+overflow_add-result c = omega arith
 
 pub returns : goal.returns
 unfolding gf1024_numbers
