@@ -10,7 +10,7 @@ use Rattle.checksum.specs.Engine.{padded}
 use Rattle.book.specs.Book.{Book, row, sure}
 use Rattle.slip.specs.Sealing.{elements, check_symbols, seal}
 use Rattle.slip.specs.View.{at}
-use Rattle.book.specs.declared.code_fault.CodeFault.TheVariants.{Short, Long}
+use Rattle.book.specs.declared.code_fault.CodeFault.TheVariants.{Long}
 
 row_append : (b c : Book) → row (b ++ c) ≡ row b ++ row c
 row_append b c = map-append (λ p. p.symbol) b c

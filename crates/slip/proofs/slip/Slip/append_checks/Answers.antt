@@ -1,7 +1,7 @@
-use Rattle.std.proofs.Common.{◌≡◌, List, ◌++◌, map, refl, ap, ◌∙◌, rules}
+use Rattle.std.proofs.Common.{◌++◌, map, refl, ap, ◌∙◌, rules}
 use Rattle.checksum.specs.Engine.{held}
 use Rattle.checksum.proofs.Sizes.{engine_fits, sixteen_fit}
-use Rattle.book.specs.Book.{Book, row, sure}
+use Rattle.book.specs.Book.{row, sure}
 use Rattle.slip.specs.View.{view}
 use Rattle.slip.proofs.Sealing.{front_seal}
 use Rattle.slip.proofs.slip.Slip.append_checks.Goals as goal

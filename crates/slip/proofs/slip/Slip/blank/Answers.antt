@@ -1,5 +1,5 @@
-use Rattle.std.proofs.Common.{◌≡◌, length, sym, ap, ◌∙◌, arith}
-use Rattle.book.specs.Book.{answer, after, blank}
+use Rattle.std.proofs.Common.{sym, ap, ◌∙◌, arith}
+use Rattle.book.specs.Book.{answer, after}
 use Rattle.slip.specs.View.{view}
 use Rattle.slip.proofs.Calls.{blank_full, blank_held}
 use Rattle.slip.proofs.Places.{length_view}

@@ -1,4 +1,4 @@
-use Rattle.std.proofs.Common.{◌≡◌, ap, ◌∙◌, rules}
+use Rattle.std.proofs.Common.{ap, ◌∙◌, rules}
 use Rattle.algebra.specs.Code.{residue}
 use Rattle.checksum.proofs.Sizes.{engine_fits}
 use Rattle.slip.specs.Sealing.{elements}

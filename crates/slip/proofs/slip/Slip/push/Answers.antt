@@ -4,16 +4,13 @@ use Rattle.slip.proofs.slip.Slip.push.Goals as goal
 
 pub invariant_of-self : goal.invariant_of-self
 invariant_of-self c =
-    let s = c.args.self.now in (
-      length-set s.symbols s.len c.args.symbol ∙ s.all_symbols,
-      (
-        length-set s.doubted s.len c.args.doubted ∙ s.all_marks,
-        (
-          omega arith,
-          (set_below s.symbols s.len c.args.symbol c.requires.0 s.below, tt),
-        ),
-      ),
-    )
+    let s = c.args.self.now in
+    record {
+      all_symbols = length-set s.symbols s.len c.args.symbol ∙ s.all_symbols;
+      all_marks = length-set s.doubted s.len c.args.doubted ∙ s.all_marks;
+      room = omega arith;
+      below = set_below s.symbols s.len c.args.symbol c.requires.0 s.below;
+    }
 
 pub returns : goal.returns
 returns c =

@@ -1,4 +1,4 @@
-use Rattle.std.proofs.Common.{◌≡◌, length, sym, arith}
+use Rattle.std.proofs.Common.{sym, arith}
 use Rattle.slip.specs.View.{view}
 use Rattle.slip.proofs.Places.{length_view, symbol_at_places, symbol_at_past}
 use Rattle.slip.proofs.slip.Slip.symbol.Goals as goal

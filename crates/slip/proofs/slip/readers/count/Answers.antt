@@ -1,4 +1,4 @@
-use Rattle.std.proofs.Common.{◌≡◌, ℕ, suc, ◌+◌, true, false, ◌∷◌, get_or, drop, ap, arith}
+use Rattle.std.proofs.Common.{◌≡◌, suc, ◌+◌, false, ◌∷◌, get_or, drop, ap, arith}
 use Rattle.std.proofs.lemmas.List.{at_drop_more, at_drop_all}
 use Rattle.algebra.specs.Rows.{count}
 use Rattle.slip.proofs.slip.readers.count.Goals as goal
