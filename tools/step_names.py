@@ -27,7 +27,7 @@ def main(crates):
             with open(path, encoding="utf-8") as f:
                 words |= {w for w in re.findall(r"[A-Za-z][A-Za-z0-9_]*", f.read()) if "_" in w.strip("_")}
         dashed = {w.replace("_", "-"): w for w in words}
-        name = re.compile(r"(?<![^-\s])(" + "|".join(re.escape(d) for d in sorted(dashed, key=len, reverse=True)) + r")(?![^-])")
+        name = re.compile(r"(?<![^-+\s])(" + "|".join(re.escape(d) for d in sorted(dashed, key=len, reverse=True)) + r")(?![^-+])")
         token = re.compile(r"(?<=\.)[^\s(){}\[\],;.⌜⌝]+|^(?:pub |abbrev pub |unfoldable pub )?[^\s(){}\[\],;.⌜⌝]+(?= :)|^[a-z][^\s(){}\[\],;.⌜⌝]*(?= [a-z] )", re.M)
         upper = re.compile(r"(?<![^\s{,(\[|])(?:Then|Else|In|After|Before|then|else|in)[-_][^\s(){}\[\],;.⌜⌝]+")
         for path in files(os.path.join(base, "proofs"), ".antt"):

@@ -5,7 +5,7 @@ use Rattle.correction.specs.Forney.{Valued}
 use Rattle.book.specs.Patterns.{held}
 use Rattle.correction.proofs.Onward.{Onward, onward_all, onward_same, passed_over, taken_up, never_refused}
 use Rattle.correction.proofs.listing.list_erasures.Goals as goal
-use Rattle.correction.proofs.listing.list_erasures.Goals.{then-marks-place+in-ok-list_place, else-marks-place}
+use Rattle.correction.proofs.listing.list_erasures.Goals.{then-marks-place+in_ok-list_place, else-marks-place}
 
 pub returns-in_err-list_place : goal.returns-in_err-list_place
 returns-in_err-list_place g c =
@@ -22,7 +22,7 @@ loop-place-preserved g c =
     let hs = held c.loop-place.pattern in
     let left = positions (drop (i + 1) ms) in
     elim c.if-marks-place.branch [
-      | then-marks-place+in-ok-list_place w ↦
+      | then-marks-place+in_ok-list_place w ↦
           let next = w.list_place.new.pattern in
           onward_same Change (length ms) (positions ms) before left next c.if-marks-place.pattern w.pattern-is
           (taken_up ms i c.loop-place-test.true Change before hs c.loop-place.invariant w.if-marks-place.true (held next) w.list_place.result w.list_place.ensures)

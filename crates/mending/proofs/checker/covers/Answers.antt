@@ -4,7 +4,7 @@ use Rattle.std.proofs.lemmas.Bool.Decides.{not_from_Decides}
 use Rattle.slip.specs.View.{view}
 use Rattle.mending.proofs.Checking.{decided_yes, decided_no, covers_more, covers_all}
 use Rattle.mending.proofs.checker.covers.Goals as goal
-use Rattle.mending.proofs.checker.covers.Goals.{then-is-doubted+else-not-names, else-is_doubted}
+use Rattle.mending.proofs.checker.covers.Goals.{then-is_doubted+else-not-names, else-is_doubted}
 
 pub returns-then-not-names : goal.returns-then-not-names
 returns-then-not-names c = decided_no (λ covers.
@@ -14,7 +14,7 @@ pub loop-place-preserved : goal.loop-place-preserved
 loop-place-preserved c =
     let more = covers_more (view c.args.slip.now) c.args.records.now c.loop-place.place in
     elim c.if-is_doubted.branch [
-      | then-is-doubted+else-not-names w ↦ more (λ q. w.names.ensures.0 w.if-not-names.false) c.loop-place.invariant
+      | then-is_doubted+else-not-names w ↦ more (λ q. w.names.ensures.0 w.if-not-names.false) c.loop-place.invariant
       | else-is_doubted w ↦ more (λ q. absurd (both_ways _ w.if-is_doubted.false (c.is_doubted.ensures ∙ q))) c.loop-place.invariant
     ]
 
