@@ -15,9 +15,7 @@ use Rattle.algebra.proofs.Quadratic.{quadratic}
 use Rattle.gf32.specs.Binary.{product}
 use Rattle.gf32.specs.Every.{at}
 use Rattle.gf32.specs.Gf32.{gf32, gf32_numbers}
-use Rattle.gf32.specs.declared.gf32.Fe32.{Fe32}
 use Rattle.gf32_ext.specs.Gf1024.{gf1024, gf1024_numbers, lift1024}
-use Rattle.gf32_ext.specs.declared.fe1024.Fe1024.{Fe1024}
 use Rattle.codes.specs.Bech32.{sheet}
 
 -- 1 + 6ζ generates the elements but ZERO

@@ -1,13 +1,12 @@
 -- The finish code is lawful. Assumes nothing.
-use mathlib.Core.Path.{◌≡◌, refl, ap, subst}
-use mathlib.Core.Bool.{Bool}
-use mathlib.Core.List.{List, map}
+use mathlib.Core.Path.{◌≡◌, refl}
+use mathlib.Core.List.{map}
 use Prim.Native.Nat.{ℕ, zero, suc, ◌<◌, ◌≤◌}
 use native.Mathlib.Omega.{arith}
-use lib.Dec.{T, eqb, eqb→eq, lit<, lit≤}
+use lib.Dec.{eqb, eqb→eq, lit<, lit≤}
 use Rattle.algebra.specs.Field.{pow}
 use Rattle.algebra.specs.Poly.{eval}
-use Rattle.algebra.specs.Code.{Code, Lawful, generator}
+use Rattle.algebra.specs.Code.{Lawful, generator}
 use Rattle.algebra.proofs.Orders.{order_ne_zero}
 use Rattle.gf32.specs.declared.gf32.Fe32.{Fe32}
 use Rattle.gf32.specs.Binary.{product}

@@ -1,6 +1,6 @@
 -- The sheet code: GF(32) under GF(1024), generator x^6 + 29 x^5 + 22 x^4 + 20 x^3 + 21 x^2 + 29 x + 18 with the roots
 -- (1 + 6ζ)^24, (1 + 6ζ)^25, (1 + 6ζ)^26. Assumes nothing.
-use Rattle.std.specs.Prelude.{List, [], ◌∷◌}
+use Rattle.std.specs.Prelude.{[], ◌∷◌}
 use Rattle.std.proofs.Common.{lit<}
 use Rattle.algebra.specs.Code.{Code, one}
 use Rattle.gf32.specs.Gf32.{fe, gf32}

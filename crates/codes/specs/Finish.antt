@@ -1,5 +1,5 @@
 -- The finish code: GF(32) over itself, generator x^4 + 30 x^3 + 7 x^2 + 24 x + 19 with the roots 2, 2^2, 2^3, 2^4. Assumes nothing.
-use Rattle.std.specs.Prelude.{List, [], ◌∷◌}
+use Rattle.std.specs.Prelude.{[], ◌∷◌}
 use Rattle.std.proofs.Common.{lit<}
 use Rattle.algebra.specs.Code.{Code, one}
 use Rattle.gf32.specs.declared.gf32.Fe32.{Fe32}
