@@ -1,5 +1,5 @@
 -- Where a row is near, what is proposed is the changes from it. Assumes nothing.
-use Rattle.std.proofs.Common.{◌≡◌, ℕ, ◌+◌, ◌-◌, ◌*◌, ◌≤◌, Bool, List, ◌++◌, map, length, Some, Option, sym, refl, ap, ◌∙◌, subst, ap₂, arith}
+use Rattle.std.proofs.Common.{◌≡◌, ℕ, ◌≤◌, Bool, List, ◌++◌, map, length, Some, Option, sym, refl, ap, ◌∙◌, subst, ap₂, arith}
 use Rattle.std.proofs.lemmas.List.{length-append, length-map}
 use Rattle.algebra.specs.Code.{Code, Lawful, bound}
 use Rattle.algebra.specs.Decode.{errata_locator, errata_evaluator, root_position}
@@ -20,7 +20,7 @@ use Rattle.book.specs.Mending.{changes}
 use Rattle.book.proofs.Fitting.{few_changes}
 use Rattle.book.proofs.Numbers.{Below, elements, in_elements, length_elements, row_elements, marks_elements, near_elements}
 use Rattle.decoding.proofs.Found.{locator_found, evaluator_found, errata_found}
-use Rattle.decoding.proofs.Listed.{root_list, change_number, record_at, Right, doubted_right, roots_right, listed_changes}
+use Rattle.decoding.proofs.Listed.{root_list, change_number, Right, doubted_right, roots_right, listed_changes}
 use Rattle.polynomial.specs.Roots.{roots}
 use Rattle.correction.specs.Decoded.{located, Told, found, Complete, Tells}
 use Rattle.correction.specs.Forney.{Valued}

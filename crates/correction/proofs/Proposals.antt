@@ -1,7 +1,7 @@
 -- What is proposed by what decoding finds. Assumes nothing.
 --   few_doubts, few_errors   where all changes are told, neither of the two tests stops the search
 --   erasures_listed, all_listed   the doubted places' records are had, and then all
-use Rattle.std.proofs.Common.{◌≡◌, ℕ, ◌+◌, ◌-◌, ◌*◌, ◌<◌, ◌≤◌, Bool, List, [], ◌++◌, map, length, take, Some, None, Option, sym, ap, ◌∙◌, subst, ap₂, arith}
+use Rattle.std.proofs.Common.{◌≡◌, ℕ, ◌+◌, ◌-◌, ◌*◌, ◌≤◌, Bool, List, [], ◌++◌, map, length, take, Some, Option, sym, ap, ◌∙◌, subst, ap₂, arith}
 use Rattle.std.proofs.lemmas.List.{length-take-le}
 use Rattle.algebra.specs.Decode.{errata_locator, errata_evaluator, root_position}
 use Rattle.algebra.specs.Field.{FieldOn, Numbers, HasOrder, pow}

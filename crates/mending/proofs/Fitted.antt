@@ -1,6 +1,5 @@
 -- What the checker finds out is that a pattern fits. Assumes nothing.
 use Rattle.std.proofs.Common.{◌≡◌, ℕ, ◌+◌, ◌<◌, Bool, true, false, cond, eqb, List, [], ◌∷◌, map, length, Decides, sym, refl, ap, ◌∙◌, subst}
-use Rattle.algebra.specs.Code as code
 use Rattle.algebra.specs.Code.{Code, bound, residue}
 use Rattle.algebra.specs.Field.{FieldOn, Numbers}
 use Rattle.algebra.specs.Series.{All, Mem}

@@ -1,11 +1,10 @@
 -- What a slip's own calls answer is what follows. Assumes nothing.
 --   wrote, blanked, doubted, wiped   from the equations of each call
 --   sealed                           from those of a seal, by a code whose seals seal
-use Rattle.std.proofs.Common.{◌≡◌, ℕ, suc, ◌+◌, ◌<◌, Bool, true, false, cond, eqb, ltb, List, [], ◌∷◌, ◌++◌, map, length, get_or, take, Ok, Err, Result, sym, refl, ap, ◌∙◌, subst, arith}
+use Rattle.std.proofs.Common.{◌≡◌, ℕ, ◌+◌, Bool, true, false, cond, eqb, ltb, ◌++◌, map, length, Ok, Err, Result, sym, refl, ap, ◌∙◌, subst}
 use Rattle.field.specs.declared.fault.Refusal.{Refusal}
 use Rattle.algebra.specs.Code.{Code, checks}
 use Rattle.algebra.specs.Field.{FieldOn, Numbers}
-use Rattle.algebra.specs.Series.{All}
 use Rattle.book.specs.Book as book
 use Rattle.book.specs.Book.{Book, sure, row, fresh, answer, after}
 use Rattle.book.specs.Calls.{Call, Answer, Follows, said, done, write, blank, doubt, wipe, seal, writes, blanks, doubting, wipes, unsealed, seals}
@@ -17,8 +16,6 @@ use Rattle.book.specs.declared.code_fault.CodeFault.TheVariants.{Short, Long}
 use Rattle.book.specs.declared.slip_fault.SlipFault.{SlipFault}
 use Rattle.slip.specs.Sealing as sealing
 use Rattle.slip.specs.Sealing.{check_symbols}
-use Rattle.slip.specs.View.{view}
-use Rattle.slip.specs.declared.slip.Slip.{Slip}
 
 -- the answer without the book says as much
 said_answer : {Fault : Type 0} (told : Fault → Refusal) (x : Result Book Fault) → said told (answer x) ≡ said told x

@@ -1,7 +1,4 @@
-use Rattle.std.proofs.Common.{◌≡◌, ◌+◌, ◌-◌, ◌*◌, ◌≤◌, length, take, Some, ap, arith, rules}
-use Rattle.std.proofs.lemmas.List.{length-take-le}
-use Rattle.algebra.specs.Rows.{count}
-use Rattle.decoding.proofs.Locates as locates
+use Rattle.std.proofs.Common.{take, Some, ap, arith}
 use Rattle.book.specs.Patterns.{held}
 use Rattle.correction.proofs.Proposals.{few_doubts, few_errors, erasures_listed, all_listed}
 use Rattle.correction.proofs.Values.{never_both}

@@ -1,4 +1,4 @@
-use Rattle.std.proofs.Common.{◌≡◌, ◌+◌, ◌-◌, ◌<◌, ◌≤◌, ◌++◌, length, drop, set, sym, ap, ◌∙◌, subst, arith, drop-set-lt}
+use Rattle.std.proofs.Common.{◌+◌, ◌-◌, ◌++◌, set, ap, ◌∙◌, arith, drop-set-lt}
 use Rattle.std.proofs.lemmas.List.{length-set}
 use Rattle.algebra.specs.Field.{pow}
 use Rattle.algebra.specs.Rows.{count, positions}

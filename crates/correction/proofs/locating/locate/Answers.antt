@@ -1,4 +1,4 @@
-use Rattle.std.proofs.Common.{◌≡◌, ℕ, take, ap, ◌∙◌, arith}
+use Rattle.std.proofs.Common.{ℕ, take, ap, ◌∙◌, arith}
 use Rattle.algebra.specs.Poly.{eval}
 use Rattle.decoding.proofs.Locates.{multiplies, evaluates, derives, evaluator_is, slopes_are, some_evaluator}
 use Rattle.correction.proofs.locating.locate.Goals as goal

@@ -1,4 +1,4 @@
-use Rattle.std.proofs.Common.{◌≡◌, take, arith}
+use Rattle.std.proofs.Common.{take, arith}
 use Rattle.decoding.proofs.Locates.{erased, folds, connects, some_errors}
 use Rattle.correction.proofs.locating.locators.Goals as goal
 

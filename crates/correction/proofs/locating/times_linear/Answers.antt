@@ -1,4 +1,4 @@
-use Rattle.std.proofs.Common.{◌≡◌, ap, ◌∙◌, arith}
+use Rattle.std.proofs.Common.{ap, ◌∙◌, arith}
 use Rattle.decoding.proofs.Linear.{turned_none, turned_more, turned_all}
 use Rattle.correction.proofs.locating.times_linear.Goals as goal
 

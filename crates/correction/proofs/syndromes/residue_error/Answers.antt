@@ -1,4 +1,4 @@
-use Rattle.std.proofs.Common.{◌≡◌, ◌≤◌, length, replicate, sym, ap, ◌∙◌, arith, rules}
+use Rattle.std.proofs.Common.{◌≡◌, length, replicate, ap, ◌∙◌, arith, rules}
 use Rattle.algebra.specs.Code.{checks}
 use Rattle.algebra.specs.Poly.{poly_sub}
 use Rattle.algebra.proofs.Sealing.{length_residue}

@@ -1,5 +1,4 @@
 use Rattle.std.proofs.Common.{◌+◌, ◌-◌, ap}
-use Rattle.algebra.specs.Code.{bound}
 use Rattle.book.specs.Book.{row}
 use Rattle.decoding.proofs.ResidueErrors.{syndromes_are}
 use Rattle.slip.specs.Sealing.{elements}
