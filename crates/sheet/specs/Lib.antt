@@ -1,3 +1,4 @@
+pub mod BookCalls
 pub mod Calls
 pub mod Characters
 pub mod Faults

@@ -1,6 +1,7 @@
 // A typed line, taken onto a slip.
 ghost use Rattle.std.specs.Prelude.{◌≡◌, true, false, [], ◌∷◌, Ok, Err};
-ghost use Rattle.sheet.specs.Calls.{all_done, calls_of};
+ghost use Rattle.sheet.specs.BookCalls.{all_done};
+ghost use Rattle.sheet.specs.Calls.{calls_of, made_all};
 ghost use Rattle.sheet.specs.Taking.{at_byte, before_slash, is_other, line_case, outcome, taken, taken_all, take_line};
 ghost use Rattle.book.specs.Book.{after, answer, fresh};
 ghost use Rattle.book.specs.Calls.{done, wipe};
@@ -17,7 +18,8 @@ use slip::slip::Slip;
 pub fn take_line(slip: &mut Slip, line: &[u8]) -> Result<(), LineFault>
     ensures answer { result ≡ answer (take_line true line.now) }
     ensures book { view slip.new ≡ after fresh (take_line true line.now) }
-    ensures calls { result ≡ Ok tt → Leads (view slip.old) (all_done (calls_of line.now)) (view slip.new) }
+    ensures calls { result ≡ Ok tt → made_all (calls_of line.now) (view slip.old) ≡ Ok (view slip.new) }
+    ensures leads { result ≡ Ok tt → Leads (view slip.old) (all_done (calls_of line.now)) (view slip.new) }
     ensures wiped { (fault : LineFault) → result ≡ Err fault → Leads (view slip.old) ((wipe, done) ∷ []) (view slip.new) }
 {
     take(slip, line, true)

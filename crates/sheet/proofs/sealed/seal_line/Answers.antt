@@ -1,4 +1,4 @@
-use Rattle.std.proofs.Common.{◌≡◌, false, sym, ap, ◌∙◌, ap₂}
+use Rattle.std.proofs.Common.{false, sym, ap, ◌∙◌, ap₂}
 use Rattle.slip.specs.View.{view}
 use Rattle.sheet.specs.Groups.{in_groups}
 use Rattle.sheet.specs.Taking.{before_slash, line_case, take_line}

@@ -1,4 +1,4 @@
-use Rattle.std.proofs.Common.{◌≡◌, length, is_ok, sym, ap, ◌∙◌}
+use Rattle.std.proofs.Common.{length, is_ok, sym, ap, ◌∙◌}
 use Rattle.book.specs.Book.{answer}
 use Rattle.slip.specs.View.{view}
 use Rattle.sheet.proofs.EightSealed.{eight_held, eight_sealed, twelve_sealed}

@@ -1,4 +1,4 @@
-use Rattle.std.proofs.Common.{◌≡◌, sym, ap, ◌∙◌}
+use Rattle.std.proofs.Common.{ap, ◌∙◌}
 use Rattle.book.specs.Book.{answer, after, fresh}
 use Rattle.sheet.proofs.BytesTaken.{whole_line}
 use Rattle.sheet.proofs.taking.take.Goals as goal

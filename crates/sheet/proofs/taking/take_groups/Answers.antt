@@ -1,8 +1,8 @@
-use Rattle.std.proofs.Common.{◌≡◌, sym, ap, ◌∙◌}
+use Rattle.std.proofs.Common.{sym, ◌∙◌}
 use Rattle.std.proofs.lemmas.List.{at_drop_all}
 use Rattle.std.proofs.lemmas.Result.{err_from_is_err_and}
 use Rattle.slip.specs.View.{view}
-use Rattle.sheet.specs.Taking.{taken_all, outcome}
+use Rattle.sheet.specs.Taking.{taken_all}
 use Rattle.sheet.proofs.BytesTaken.{next_byte, bad_byte}
 use Rattle.sheet.proofs.taking.take_groups.Goals as goal
 

@@ -1,5 +1,5 @@
 use Rattle.slip.specs.View.{view}
-use Rattle.sheet.proofs.CallsMade.{line_made, only_wiped}
+use Rattle.sheet.proofs.CallsMade.{line_made, line_leads, only_wiped}
 use Rattle.sheet.proofs.taking.take_line.Goals as goal
 
 pub returns : goal.returns
@@ -8,5 +8,6 @@ returns c =
       answer = c.take.ensures.answer;
       book = c.take.ensures.book;
       calls = line_made c.args.line.now (view c.args.slip.now) _ _ c.take.ensures.answer c.take.ensures.book;
+      leads = line_leads c.args.line.now (view c.args.slip.now) _ _ c.take.ensures.answer c.take.ensures.book;
       wiped = only_wiped c.args.line.now (view c.args.slip.now) _ _ c.take.ensures.answer c.take.ensures.book;
     }
