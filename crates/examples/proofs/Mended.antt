@@ -1,5 +1,5 @@
 -- The examples of mending stand. Assumes nothing.
-use Rattle.std.proofs.Common.{◌≡◌, ℕ, zero, suc, ◌+◌, ◌*◌, ◌<◌, ◌≤◌, true, eqb, List, [], ◌∷◌, map, length, None, sym, refl, ap, ◌∙◌, subst, ap₂, arith, lit≤}
+use Rattle.std.proofs.Common.{◌≡◌, ℕ, ◌+◌, ◌<◌, ◌≤◌, List, [], ◌∷◌, map, length, None, sym, refl, ap, ◌∙◌, subst, ap₂, arith, lit≤}
 use native.Mathlib.Decide.{dec_le, dec_lt, ℕ_discrete}
 use Rattle.algebra.specs.Field.{Lifts, pow}
 use Rattle.algebra.specs.Poly.{eval}
