@@ -6,10 +6,12 @@ use Rattle.std.proofs.lemmas.Bool.{both_ways}
 use Rattle.algebra.specs.Rows.{count, refuted, wrong_places, doubted_places, errors}
 use Rattle.algebra.specs.Series.{All, Mem, here, there}
 use Rattle.algebra.proofs.Members.{all_append, all_map}
+use Rattle.algebra.specs.Rows as rows
 use Rattle.book.specs.Book.{Place, Book, row, doubts, doubted_at}
 use Rattle.book.specs.Codes.{Rows, Lawful, Near}
 use Rattle.book.specs.Mending.{doubtful, wrong, changes_at, changes, subtracted, Different, places, elsewhere, Fits}
 use Rattle.book.specs.declared.record.Record.{Record}
+use Rattle.book.proofs.Doubts.{doubts_places}
 use Rattle.book.proofs.Subtracting.{changes_subtracted}
 
 pub row_length : (b : Book) → length (row b) ≡ length b
@@ -71,6 +73,7 @@ module _ (C : Rows) where
         let few = errors_subtracted b cs (row b) in
         let none = errors_row b in
         let within = fits.within in
+        let doubted = doubts_places b in
         omega arith;
   }
 
@@ -171,12 +174,12 @@ module _ (C : Rows) where
       by true m = there m
       by false m = m
 
-  length_doubted : (i : ℕ) (b : Book) (n : List ℕ) → length n ≡ length b → length (changes_at doubtful C i b n) ≡ doubts b
+  length_doubted : (i : ℕ) (b : Book) (n : List ℕ) → length n ≡ length b → length (changes_at doubtful C i b n) ≡ rows.doubts b
   length_doubted i [] n l = refl
   length_doubted i (a ∷ b) [] l = absurd (omega arith)
   length_doubted i (a ∷ b) (v ∷ n) l = by a.doubted (length_doubted (i + 1) b n (omega arith))
     where
-      by : (d : Bool) → length (changes_at doubtful C (i + 1) b n) ≡ doubts b
+      by : (d : Bool) → length (changes_at doubtful C (i + 1) b n) ≡ rows.doubts b
           → length (cond d (record { place = i; change = C.less a.symbol v } ∷ changes_at doubtful C (i + 1) b n) (changes_at doubtful C (i + 1) b n)) ≡ count (d ∷ doubted_places b)
       by true h = ap suc h
       by false h = h
@@ -231,18 +234,20 @@ module _ (C : Rows) where
   length_changes b n l =
       let k = length b - 1 in
       let one = length_doubted 0 b n l in
+      let doubted = doubts_places b in
       let two = length_wrong k (drop k b) (drop k n) in
       let three = length_wrong 0 (take k b) (take k n) in
       let split = errors_split k b n in
       let first = length-append (changes_at doubtful C 0 b n) (changes_at wrong C k (drop k b) (drop k n) ++ changes_at wrong C 0 (take k b) (take k n)) in
       let second = length-append (changes_at wrong C k (drop k b) (drop k n)) (changes_at wrong C 0 (take k b) (take k n)) in
-      omega (arith, one, two, three, split, first, second)
+      omega (arith, one, doubted, two, three, split, first, second)
 
   pub few_changes : (b : Book) (n : List ℕ) → Near C b n → length (changes C b n) ≤ C.bound
   few_changes b n near =
       let as_many = length_changes b n near.same_length in
       let close = near.close in
-      omega (arith, as_many, close)
+      let doubted = doubts_places b in
+      omega (arith, as_many, close, doubted)
 
   different_append : (cs ds : List Record) → Different (places cs) → Different (places ds) → All (λ c. All (λ d. ¬ (c.place ≡ d.place)) ds) cs → Different (places (cs ++ ds))
   different_append [] ds h k apart = k
@@ -355,6 +360,6 @@ module _ (C : Rows) where
         changed = all_changes b n (λ c. doubted_at c.place b ≡ false → ¬ (c.change ≡ C.nothing))
             (λ c w q. absurd (both_ways (doubted_at c.place b) q (wanted_doubtful b n c.place c w)))
             (λ c w q. wanted_changed law b n c.place c below symbols w);
-        within = let few = elsewhere_changes b n in let close = near.close in omega (arith, few, close);
+        within = let few = elsewhere_changes b n in let close = near.close in let doubted = doubts_places b in omega (arith, few, close, doubted);
         sound = subst (λ m. C.sound m ≡ true) (sym (changes_subtracted C law b n below near)) near.sound;
       }

@@ -1,3 +1,4 @@
+pub mod Doubts
 pub mod Fitting
 pub mod Kept
 pub mod Numbers

@@ -4,8 +4,8 @@
 --   fresh          the book of a new slip, and of one that was wiped
 --   write, blank, doubt   the book after each call, or why the call is refused
 --   answer, after  what a call answers, and the book that it leaves: a refusal changes nothing
---   symbol_at, doubted_at   what is read from a book
-use Rattle.std.specs.Prelude.{ℕ, zero, suc, Bool, true, false, cond, List, [], ◌∷◌, ◌++◌, length, Some, None, Ok, Err, Option, Result, nat_le, nat_lt}
+--   symbol_at, doubted_at, doubts   what is read from a book
+use Rattle.std.specs.Prelude.{ℕ, zero, suc, ◌+◌, Bool, true, false, cond, List, [], ◌∷◌, ◌++◌, map, length, Some, None, Ok, Err, Option, Result, nat_le, nat_lt}
 use Rattle.algebra.specs.Rows as rows
 use Rattle.book.specs.declared.slip_fault.SlipFault.{SlipFault}
 use Rattle.book.specs.declared.slip_fault.SlipFault.TheVariants.{Symbol, Full, Absent}
@@ -23,14 +23,10 @@ abbrev pub unsure : ℕ → Place
 unsure v = record { symbol = v; doubted = true }
 
 abbrev pub row : Book → List ℕ
-row b = rows.symbols b
+row b = map (λ p. p.symbol) b
 
 abbrev pub marks : Book → List Bool
-marks b = rows.doubted_places b
-
--- how many places are doubted
-abbrev pub doubts : Book → ℕ
-doubts b = rows.doubts b
+marks b = map (λ p. p.doubted) b
 
 abbrev pub fresh : Book
 fresh = []
@@ -45,7 +41,9 @@ blank b = cond (nat_le 89 (length b)) (Err Full) (Ok (b ++ unsure 0 ∷ []))
 
 -- the book with a place doubted
 abbrev pub mark : ℕ → Book → Book
-mark place b = rows.mark place b
+mark place [] = []
+mark zero (p ∷ b) = unsure p.symbol ∷ b
+mark (suc place) (p ∷ b) = p ∷ mark place b
 
 abbrev pub doubt : ℕ → Book → Result Book SlipFault
 doubt place b = cond (nat_le (length b) place) (Err (Absent place)) (Ok (mark place b))
@@ -67,3 +65,11 @@ abbrev pub doubted_at : ℕ → Book → Bool
 doubted_at place [] = false
 doubted_at zero (p ∷ b) = p.doubted
 doubted_at (suc place) (p ∷ b) = doubted_at place b
+
+-- how many are true
+abbrev pub trues : List Bool → ℕ
+trues [] = 0
+trues (b ∷ bs) = cond b 1 0 + trues bs
+
+abbrev pub doubts : Book → ℕ
+doubts b = trues (marks b)

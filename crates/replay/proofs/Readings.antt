@@ -3,7 +3,7 @@ use Rattle.std.proofs.Common.{◌≡◌, ℕ, Bool, true, false, List, [], ◌�
 use Rattle.std.proofs.ByRecursion.{All-push}
 use Rattle.std.proofs.lemmas.List.{map-append}
 use Rattle.std.specs.Str.Pattern.{FindsChar, IsSplitAtFirstMatch}
-use Rattle.std.specs.List.{AllByRecursion as All}
+use Rattle.std.specs.List.{AllByRecursion}
 use Rattle.algebra.specs.Field.{Numbers}
 use Rattle.replay.proofs.Parts.{coming, parted, entries_but_minus}
 use Rattle.replay.specs.Elements.{between_commas, element_in, entries, Readable, ReadAs}
@@ -13,7 +13,7 @@ texts parts = map (λ part. part.now) parts
 
 -- the elements are those of some parts of a text, and the other parts are those of the rest, if that is live
 pub record ReadSoFar {A : Type 0} (N : Numbers A) (text : List ℕ) (parts : List (Bor (List ℕ))) (live : Bool) (rest : List ℕ) (elements : List A) : Type 0 where
-  pub readable : All (Readable N) (texts parts)
+  pub readable : AllByRecursion (Readable N) (texts parts)
   pub meant : elements ≡ map (element_in N) (texts parts)
   pub others : texts parts ++ coming live rest ≡ between_commas text
 

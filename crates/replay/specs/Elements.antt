@@ -1,7 +1,7 @@
 -- Elements of a field as text, each by its number: what is written, and what a text reads as. Assumes nothing.
 use Rattle.std.specs.Prelude.{◌≡◌, ℕ, ◌<◌, cond, List, [], ◌∷◌, ◌++◌, map, decimal, ◌==◌}
 use Rattle.std.specs.Str.Parse.{IsNumeral, without_leading_plus, digits_value}
-use Rattle.std.specs.List.{AllByRecursion as All}
+use Rattle.std.specs.List.{AllByRecursion}
 use Rattle.algebra.specs.Field.{Numbers}
 
 -- numbers in decimal, a comma before each
@@ -44,4 +44,4 @@ entries (c ∷ d ∷ text) = between_commas (c ∷ d ∷ text)
 
 -- the elements are those that a list's text stands for, in order
 abbrev pub ReadAs : {A : Type 0} → Numbers A → List ℕ → List A → Type 0
-ReadAs N text elements = All (Readable N) (entries text) × (elements ≡ map (element_in N) (entries text))
+ReadAs N text elements = AllByRecursion (Readable N) (entries text) × (elements ≡ map (element_in N) (entries text))

@@ -1,7 +1,6 @@
 // What a slip tells.
 ghost use Rattle.std.specs.Prelude.{◌≡◌, ℕ, ◌<◌, length, slice_index};
-ghost use Rattle.algebra.specs.Rows.{count as set};
-ghost use Rattle.book.specs.Book.{row, marks, symbol_at, doubted_at, doubts};
+ghost use Rattle.book.specs.Book.{row, marks, symbol_at, doubted_at, doubts, trues};
 ghost use Rattle.slip.specs.View.{view};
 
 use super::Slip;
@@ -59,7 +58,7 @@ impl Slip {
 
 // How many flags are set.
 fn count(flags: &[bool]) -> usize
-    ensures { result ≡ set flags.now }
+    ensures { result ≡ trues flags.now }
 {
     let mut n = 0;
     for mark in flags {

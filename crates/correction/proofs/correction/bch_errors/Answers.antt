@@ -9,6 +9,7 @@ use Rattle.book.proofs.Numbers.{elements}
 use Rattle.slip.specs.View.{view}
 use Rattle.slip.proofs.Below.{row_below}
 use Rattle.slip.proofs.Places.{length_view}
+use Rattle.book.proofs.Doubts.{doubts_places}
 use Rattle.correction.specs.Decoded.{Tells}
 use Rattle.correction.proofs.Nearby.{proposes}
 use Rattle.correction.proofs.correction.bch_errors.Goals as goal
@@ -25,7 +26,7 @@ in_parts-proposal-requires g c =
     let places = length_view slip in
     let first : c.root_exponents-first.result.0 ≡ g.C.Checksum.code.first = ap (λ (r : ℕ × ℕ). r.0) c.root_exponents-first.ensures in
     record {
-      given = (c.doubts.ensures ∙ ap count (sym c.marks.ensures), (omega arith, (omega arith, λ z. lawful.root_ne_zero (sym c.root_generator.ensures ∙ z))));
+      given = (c.doubts.ensures ∙ doubts_places (view c.args.slip.now) ∙ ap count (sym c.marks.ensures), (omega arith, (omega arith, λ z. lawful.root_ne_zero (sym c.root_generator.ensures ∙ z))));
       small = (omega arith, (omega (arith, slip.room), c.laws.ensures.alphabet));
       room = omega arith;
     }

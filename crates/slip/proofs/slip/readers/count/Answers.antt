@@ -1,6 +1,6 @@
 use Rattle.std.proofs.Common.{◌≡◌, suc, ◌+◌, false, ◌∷◌, get_or, drop, ap, arith}
 use Rattle.std.proofs.lemmas.List.{at_drop_more, at_drop_all}
-use Rattle.algebra.specs.Rows.{count}
+use Rattle.book.specs.Book.{trues}
 use Rattle.slip.proofs.slip.readers.count.Goals as goal
 use Rattle.slip.proofs.slip.readers.count.Goals.{then-mark, else-mark}
 
@@ -9,17 +9,17 @@ loop-mark-preserved c =
     let ms = c.args.flags.now in
     let i = c.loop-mark.mark-index in
     let rest = drop (i + 1) ms in
-    let m : count (drop i ms) ≡ count (get_or ms i false ∷ rest) = at_drop_more count ms i false c.loop-mark-test.true in
+    let m : trues (drop i ms) ≡ trues (get_or ms i false ∷ rest) = at_drop_more trues ms i false c.loop-mark-test.true in
     elim c.if-mark.branch [
       | then-mark w ↦
-          let e : count (get_or ms i false ∷ rest) ≡ suc (count rest) = ap (λ f. count (f ∷ rest)) w.if-mark.true in
+          let e : trues (get_or ms i false ∷ rest) ≡ 1 + trues rest = ap (λ f. trues (f ∷ rest)) w.if-mark.true in
           (omega (arith, w.n-is), omega (arith, w.n-is))
       | else-mark w ↦
-          let e : count (get_or ms i false ∷ rest) ≡ count rest = ap (λ f. count (f ∷ rest)) w.if-mark.false in
+          let e : trues (get_or ms i false ∷ rest) ≡ 0 + trues rest = ap (λ f. trues (f ∷ rest)) w.if-mark.false in
           (omega (arith, w.n-is), omega (arith, w.n-is))
     ]
 
 pub returns : goal.returns
 returns c =
-    let none : count (drop c.loop-mark.mark-index c.args.flags.now) ≡ 0 = at_drop_all count c.args.flags.now c.loop-mark.mark-index c.loop-mark-test.false in
+    let none : trues (drop c.loop-mark.mark-index c.args.flags.now) ≡ 0 = at_drop_all trues c.args.flags.now c.loop-mark.mark-index c.loop-mark-test.false in
     omega arith
