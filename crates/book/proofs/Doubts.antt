@@ -1,5 +1,5 @@
 -- How many places of a book are doubted, said of its marks and of its places. Assumes nothing.
-use Rattle.std.proofs.Common.{◌≡◌, Bool, true, false, List, [], ◌∷◌, refl, ap, ◌∙◌, arith}
+use Rattle.std.proofs.Common.{◌≡◌, Bool, true, false, List, [], ◌∷◌, refl, arith}
 use Rattle.algebra.specs.Rows as rows
 use Rattle.algebra.specs.Rows.{count}
 use Rattle.book.specs.Book.{Book, doubts, marks, trues}

@@ -1,5 +1,5 @@
 -- A script of one turn, which is a settle of the only slip.
-use Rattle.std.proofs.Common.{◌≡◌, ℕ, List, [], ◌∷◌, length, get_or, sym, subst, arith}
+use Rattle.std.proofs.Common.{◌≡◌, List, [], ◌∷◌, length, get_or, sym, subst, arith}
 use Rattle.book.specs.Book.{Book}
 use Rattle.book.specs.Calls.{Answer, Call, Follows, settle}
 use Rattle.book.specs.Codes.{Rows}

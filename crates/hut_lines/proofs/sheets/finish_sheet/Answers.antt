@@ -1,6 +1,6 @@
-use Rattle.std.proofs.Common.{◌≡◌, ℕ, ◌+◌, ◌*◌, ◌/◌, ◌<◌, ◌≤◌, min, List, [], length, get_or, drop, sym, ap, ◌∙◌, subst, arith, rules}
-use Rattle.hut_lines.specs.Lines.{first_line, lines_of, past_line}
-use Rattle.hut_lines.specs.Shown.{Output, Shown, finish_rows, fitting}
+use Rattle.std.proofs.Common.{◌≡◌, ℕ, ◌+◌, ◌*◌, ◌/◌, ◌<◌, ◌≤◌, min, length, drop, ap, ◌∙◌, subst, arith, rules}
+use Rattle.hut_lines.specs.Lines.{lines_of}
+use Rattle.hut_lines.specs.Shown.{Output, finish_rows, fitting}
 use Rattle.hut_lines.proofs.Cutting.{next_line}
 use Rattle.hut_lines.proofs.Putting.{one_more, put_behind, put_length}
 use Rattle.hut_lines.proofs.sheets.finish_sheet.Goals as goal

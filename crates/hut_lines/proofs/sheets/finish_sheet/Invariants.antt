@@ -1,4 +1,4 @@
-use Rattle.std.proofs.Common.{◌≡◌, ◌*◌, ◌≤◌, length, drop}
+use Rattle.std.proofs.Common.{◌≡◌, ◌*◌, length, drop}
 use Rattle.hut_lines.specs.Lines.{lines_of}
 use Rattle.hut_lines.specs.Shown.{Output, finish_rows}
 use Rattle.hut_lines.proofs.sheets.finish_sheet.Given as goal

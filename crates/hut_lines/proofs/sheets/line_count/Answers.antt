@@ -1,7 +1,7 @@
 use Rattle.std.proofs.Common.{◌≡◌, ◌+◌, ◌<◌, length, sym, ap, ◌∙◌, arith, rules}
 use Rattle.std.proofs.lemmas.List.{nil_from_length}
 use Rattle.std.proofs.lemmas.Bool.{eqb-false, eqb-true}
-use Rattle.hut_lines.specs.Lines.{first_line, lines_of, past_line}
+use Rattle.hut_lines.specs.Lines.{lines_of, past_line}
 use Rattle.hut_lines.proofs.Cutting.{cut, past_less}
 use Rattle.hut_lines.proofs.sheets.line_count.Goals as goal
 

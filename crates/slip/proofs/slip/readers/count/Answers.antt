@@ -1,4 +1,4 @@
-use Rattle.std.proofs.Common.{◌≡◌, suc, ◌+◌, false, ◌∷◌, get_or, drop, ap, arith}
+use Rattle.std.proofs.Common.{◌≡◌, ◌+◌, false, ◌∷◌, get_or, drop, ap, arith}
 use Rattle.std.proofs.lemmas.List.{at_drop_more, at_drop_all}
 use Rattle.book.specs.Book.{trues}
 use Rattle.slip.proofs.slip.readers.count.Goals as goal
