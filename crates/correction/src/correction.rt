@@ -56,7 +56,7 @@ fn in_parts<E: ExtensionField>(
     first: usize,
     rest: &mut [E],
 ) -> Option<Pattern>
-    requires given { (doubts ≡ count marks.now) × ((1 ≤ length s.now) × ((length s.now ≤ 16) × ((a ≢ E.Field.field.𝟘)))) }
+    requires given { (doubts ≡ count marks.now) × ((1 ≤ length s.now) × ((length s.now ≤ 16) × (a ≢ E.Field.field.𝟘))) }
     requires small { (first ≤ 65535) × ((length marks.now ≤ 89) × (E.BaseField.Field.numbers.size ≡ 32)) }
     requires room { 8 * (length s.now + 2) ≤ length rest.old }
     ensures { Tells E.Field.field E.lifted E.BaseField.Field.numbers s.now marks.now a first result }
@@ -88,7 +88,7 @@ fn propose<E: ExtensionField>(
     evaluator: &mut [E],
     derivative: &mut [E],
 ) -> Option<Pattern>
-    requires given { (doubts ≡ count marks.now) × ((1 ≤ length s.now) × ((length s.now ≤ 16) × ((a ≢ E.Field.field.𝟘)))) }
+    requires given { (doubts ≡ count marks.now) × ((1 ≤ length s.now) × ((length s.now ≤ 16) × (a ≢ E.Field.field.𝟘))) }
     requires small { (first ≤ 65535) × ((length marks.now ≤ 89) × (E.BaseField.Field.numbers.size ≡ 32)) }
     requires room { Room (length s.now) (length gamma.old) (length folded.old) (length conn.old) (length second.old) (length errata.old) (length evaluator.old) (length derivative.old) }
     ensures { Tells E.Field.field E.lifted E.BaseField.Field.numbers s.now marks.now a first result }

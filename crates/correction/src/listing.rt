@@ -6,7 +6,7 @@ ghost use Rattle.algebra.specs.Rows.{positions};
 ghost use Rattle.correction.specs.Forney.{Valued};
 ghost use Rattle.correction.specs.Listing.{Added, Lists, OnRow};
 ghost use Rattle.book.specs.Patterns.{held};
-ghost use Rattle.polynomial.specs.Roots.{coming, roots as rootIndices};
+ghost use Rattle.polynomial.specs.Roots.{coming, roots as root_indices};
 ghost use Rattle.std.specs.List.{slice_get as item};
 
 use crate::forney::change_at;
@@ -27,7 +27,7 @@ fn list_place<E: ExtensionField>(
     first: usize,
     pattern: &mut Pattern,
 ) -> Option<()>
-    requires { ((a ≢ E.Field.field.𝟘)) × ((first ≤ 65535) × ((position ≤ 65535) × ((0 < length evaluator.now) × (E.BaseField.Field.numbers.size ≡ 32)))) }
+    requires { (a ≢ E.Field.field.𝟘) × ((first ≤ 65535) × ((position ≤ 65535) × ((0 < length evaluator.now) × (E.BaseField.Field.numbers.size ≡ 32)))) }
     ensures { (y : ℕ) → Valued E.Field.field E.lifted E.BaseField.Field.numbers evaluator.now derivative.now a first position y → Added record { place = place; change = y } (held pattern.old) result (held pattern.new) }
 {
     let change = change_at(evaluator, derivative, a, first, position)?;
@@ -43,7 +43,7 @@ pub(crate) fn list_erasures<E: ExtensionField>(
     first: usize,
     pattern: &mut Pattern,
 ) -> Option<()>
-    requires { ((a ≢ E.Field.field.𝟘)) × ((first ≤ 65535) × ((length marks.now ≤ 65535) × ((0 < length evaluator.now) × (E.BaseField.Field.numbers.size ≡ 32)))) }
+    requires { (a ≢ E.Field.field.𝟘) × ((first ≤ 65535) × ((length marks.now ≤ 65535) × ((0 < length evaluator.now) × (E.BaseField.Field.numbers.size ≡ 32)))) }
     ensures { Lists (Valued E.Field.field E.lifted E.BaseField.Field.numbers evaluator.now derivative.now a first) (length marks.now) (positions marks.now) (held pattern.old) result (held pattern.new) }
 {
     for place in 0..marks.len() {
@@ -91,8 +91,8 @@ pub(crate) fn list_errors<E: ExtensionField>(
     first: usize,
     pattern: &mut Pattern,
 ) -> Option<()>
-    requires { ((a ≢ E.Field.field.𝟘)) × ((first ≤ 65535) × ((len ≤ 65535) × (((0 < length conn.now) × (0 < length evaluator.now)) × (E.BaseField.Field.numbers.size ≡ 32)))) }
-    ensures { (ord : ℕ) → HasOrder E.Field.field a ord → Lists (OnRow len (Valued E.Field.field E.lifted E.BaseField.Field.numbers evaluator.now derivative.now a first)) len (map (root_position ord) (rootIndices E.Field.field conn.now a ord)) (held pattern.old) result (held pattern.new) }
+    requires { (a ≢ E.Field.field.𝟘) × ((first ≤ 65535) × ((len ≤ 65535) × (((0 < length conn.now) × (0 < length evaluator.now)) × (E.BaseField.Field.numbers.size ≡ 32)))) }
+    ensures { (ord : ℕ) → HasOrder E.Field.field a ord → Lists (OnRow len (Valued E.Field.field E.lifted E.BaseField.Field.numbers evaluator.now derivative.now a first)) len (map (root_position ord) (root_indices E.Field.field conn.now a ord)) (held pattern.old) result (held pattern.new) }
 {
     let order = multiplicative_order(a).ok()?;
     let mut roots = find_nonzero_distinct_roots(a).ok()?;

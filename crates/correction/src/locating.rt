@@ -79,7 +79,7 @@ fn locators<F: Field>(
     conn: &mut [F],
     second: &mut [F],
 ) -> (usize, usize)
-    requires given { (count marks.now ≤ length s.now) × ((1 ≤ length s.now) × ((length s.now ≤ 16) × ((a ≢ F.field.𝟘)))) }
+    requires given { (count marks.now ≤ length s.now) × ((1 ≤ length s.now) × ((length s.now ≤ 16) × (a ≢ F.field.𝟘))) }
     requires room { (length s.now + 2 ≤ length gamma.old) × ((length s.now + 2 ≤ length folded.old) × ((length s.now + 2 ≤ length conn.old) × (2 * (length s.now + 2) ≤ length second.old))) }
     ensures erasures { take result.0 gamma.new ≡ locator F.field (pow F.field a) (positions marks.now) }
     ensures errors { take result.1 conn.new ≡ error_locator F.field (pow F.field a) (positions marks.now) (coeff F.field s.now) (length s.now) }
@@ -105,7 +105,7 @@ pub(crate) fn locate<F: Field>(
     evaluator: &mut [F],
     derivative: &mut [F],
 ) -> Found
-    requires given { (count marks.now ≤ length s.now) × ((1 ≤ length s.now) × ((length s.now ≤ 16) × ((a ≢ F.field.𝟘)))) }
+    requires given { (count marks.now ≤ length s.now) × ((1 ≤ length s.now) × ((length s.now ≤ 16) × (a ≢ F.field.𝟘))) }
     requires room { Room (length s.now) (length gamma.old) (length folded.old) (length conn.old) (length second.old) (length errata.old) (length evaluator.old) (length derivative.old) }
     ensures errors { take result.errors conn.new ≡ error_locator F.field (pow F.field a) (positions marks.now) (coeff F.field s.now) (length s.now) }
     ensures evaluator { (x : F) → eval F.field (take result.evaluator evaluator.new) x ≡ eval F.field (errata_evaluator F.field (pow F.field a) (positions marks.now) (coeff F.field s.now) (length s.now)) x }

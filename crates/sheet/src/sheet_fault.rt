@@ -1,7 +1,7 @@
 // Why a line of a sheet is refused, with the line's number.
 ghost use Rattle.std.specs.Prelude.{◌≡◌};
 ghost use Rattle.sheet.specs.SheetFaults.{told, told_cause};
-ghost use Rattle.sheet.specs.declared.sheet_fault.Cause.TheVariants.{Line as ofLine, Code as of_code};
+ghost use Rattle.sheet.specs.declared.sheet_fault.Cause.TheVariants.{Line as of_line, Code as of_code};
 
 use crate::fault::LineFault;
 use book::code_fault::CodeFault;
@@ -26,7 +26,7 @@ impl Cause {
 }
 
 impl From<LineFault> for Cause {
-    ghost from_gives = { λ fault r. r ≡ ofLine fault };
+    ghost from_gives = { λ fault r. r ≡ of_line fault };
 
     fn from(fault: LineFault) -> Cause {
         Cause::Line(fault)
