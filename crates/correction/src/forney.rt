@@ -30,7 +30,9 @@ pub(crate) fn error_value<F: Field>(
     x: F,
     first: usize,
 ) -> Option<F>
-    requires { (x ≢ F.field.𝟘) × ((first ≤ 65535) × (0 < length evaluator.now)) }
+    requires nonzero { x ≢ F.field.𝟘 }
+    requires small { first ≤ 65535 }
+    requires some { 0 < length evaluator.now }
     ensures { (eval F.field derivative.now (F.field.inv x) ≢ F.field.𝟘) → result ≡ Some (forney F.field evaluator.now derivative.now x first) }
 {
     let back = x.multiplicative_inverse().ok()?;
@@ -47,7 +49,11 @@ pub(crate) fn change_at<E: ExtensionField>(
     first: usize,
     position: usize,
 ) -> Option<u8>
-    requires { (a ≢ E.Field.field.𝟘) × ((first ≤ 65535) × ((position ≤ 65535) × ((0 < length evaluator.now) × (E.BaseField.Field.numbers.size ≡ 32)))) }
+    requires nonzero { a ≢ E.Field.field.𝟘 }
+    requires small { first ≤ 65535 }
+    requires near { position ≤ 65535 }
+    requires some { 0 < length evaluator.now }
+    requires size { E.BaseField.Field.numbers.size ≡ 32 }
     ensures { (y : ℕ) → Valued E.Field.field E.lifted E.BaseField.Field.numbers evaluator.now derivative.now a first position y → result ≡ Some y }
 {
     E::lift_laws();

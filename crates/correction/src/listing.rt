@@ -27,7 +27,11 @@ fn list_place<E: ExtensionField>(
     first: usize,
     pattern: &mut Pattern,
 ) -> Option<()>
-    requires { (a ≢ E.Field.field.𝟘) × ((first ≤ 65535) × ((position ≤ 65535) × ((0 < length evaluator.now) × (E.BaseField.Field.numbers.size ≡ 32)))) }
+    requires nonzero { a ≢ E.Field.field.𝟘 }
+    requires small { first ≤ 65535 }
+    requires near { position ≤ 65535 }
+    requires some { 0 < length evaluator.now }
+    requires size { E.BaseField.Field.numbers.size ≡ 32 }
     ensures { (y : ℕ) → Valued E.Field.field E.lifted E.BaseField.Field.numbers evaluator.now derivative.now a first position y → Added record { place = place; change = y } (held pattern.old) result (held pattern.new) }
 {
     let change = change_at(evaluator, derivative, a, first, position)?;
@@ -43,7 +47,11 @@ pub(crate) fn list_erasures<E: ExtensionField>(
     first: usize,
     pattern: &mut Pattern,
 ) -> Option<()>
-    requires { (a ≢ E.Field.field.𝟘) × ((first ≤ 65535) × ((length marks.now ≤ 65535) × ((0 < length evaluator.now) × (E.BaseField.Field.numbers.size ≡ 32)))) }
+    requires nonzero { a ≢ E.Field.field.𝟘 }
+    requires small { first ≤ 65535 }
+    requires short { length marks.now ≤ 65535 }
+    requires some { 0 < length evaluator.now }
+    requires size { E.BaseField.Field.numbers.size ≡ 32 }
     ensures { Lists (Valued E.Field.field E.lifted E.BaseField.Field.numbers evaluator.now derivative.now a first) (length marks.now) (positions marks.now) (held pattern.old) result (held pattern.new) }
 {
     for place in 0..marks.len() {
@@ -91,7 +99,12 @@ pub(crate) fn list_errors<E: ExtensionField>(
     first: usize,
     pattern: &mut Pattern,
 ) -> Option<()>
-    requires { (a ≢ E.Field.field.𝟘) × ((first ≤ 65535) × ((len ≤ 65535) × (((0 < length conn.now) × (0 < length evaluator.now)) × (E.BaseField.Field.numbers.size ≡ 32)))) }
+    requires nonzero { a ≢ E.Field.field.𝟘 }
+    requires small { first ≤ 65535 }
+    requires short { len ≤ 65535 }
+    requires list { 0 < length conn.now }
+    requires some { 0 < length evaluator.now }
+    requires size { E.BaseField.Field.numbers.size ≡ 32 }
     ensures { (ord : ℕ) → HasOrder E.Field.field a ord → Lists (OnRow len (Valued E.Field.field E.lifted E.BaseField.Field.numbers evaluator.now derivative.now a first)) len (map (root_position ord) (root_indices E.Field.field conn.now a ord)) (held pattern.old) result (held pattern.new) }
 {
     let order = multiplicative_order(a).ok()?;

@@ -36,7 +36,8 @@ fn values_at_powers<E: ExtensionField>(
     n: usize,
     out: &mut [E],
 )
-    requires { (0 < length list.now) × (n ≤ length out.old) }
+    requires some { 0 < length list.now }
+    requires room { n ≤ length out.old }
     ensures { out.new ≡ tab n (λ j. eval E.Field.field (map E.lifted list.now) (pow E.Field.field a (first + j))) ++ drop n out.old }
 {
     let mut power = powers(a).nth(first);

@@ -23,7 +23,8 @@ fn put_front<F: Field>(to: &mut [F], from: &[F])
 
 // The k entries from m on become the first k.
 fn move_down<F: Field>(w: &mut [F], m: usize, k: usize)
-    requires { (k ≤ m) × (m + k ≤ length w.old) }
+    requires front { k ≤ m }
+    requires room { m + k ≤ length w.old }
     ensures { w.new ≡ take k (drop m w.old) ++ drop k w.old }
 {
     for i in 0..k {
@@ -43,7 +44,9 @@ fn subtract_shifted<F: Field>(conn: &mut [F], old: &[F], c: F, x: usize)
 
 // Step 4: the connection list is corrected at its length.
 fn adjust<F: Field>(conn: &mut [F], old: &[F], len: usize, old_len: usize, c: F, x: usize)
-    requires { (len ≤ length conn.old) × ((old_len ≤ length old.now) × (old_len + x ≤ len)) }
+    requires list { len ≤ length conn.old }
+    requires older { old_len ≤ length old.now }
+    requires within { old_len + x ≤ len }
     ensures { conn.new ≡ change F.field (take len conn.old) c x (take old_len old.now) ++ drop len conn.old }
 {
     subtract_shifted(&mut conn[..len], &old[..old_len], c, x);
@@ -51,7 +54,10 @@ fn adjust<F: Field>(conn: &mut [F], old: &[F], len: usize, old_len: usize, c: F,
 
 // Step 5: it is corrected and grows, and as it was it becomes the old one.
 fn grow<F: Field>(conn: &mut [F], w: &mut [F], m: usize, len: usize, old_len: usize, c: F, x: usize)
-    requires { (len ≤ old_len + x) × ((old_len + x ≤ m) × ((m ≤ length conn.old) × (m + m ≤ length w.old))) }
+    requires grows { len ≤ old_len + x }
+    requires within { old_len + x ≤ m }
+    requires list { m ≤ length conn.old }
+    requires room { m + m ≤ length w.old }
     ensures list { conn.new ≡ change F.field (take len conn.old) c x (take old_len w.old) ++ drop (old_len + x) conn.old }
     ensures old { take len w.new ≡ take len conn.old }
 {
@@ -63,7 +69,8 @@ fn grow<F: Field>(conn: &mut [F], w: &mut [F], m: usize, len: usize, old_len: us
 
 // The six steps over the terms s, of which there may be none; it answers the connection list's length.
 pub(crate) fn run<F: Field>(s: &[F], conn: &mut [F], w: &mut [F]) -> usize
-    requires { (length s.now < length conn.old) × (length s.now + length s.now + 2 ≤ length w.old) }
+    requires list { length s.now < length conn.old }
+    requires room { length s.now + length s.now + 2 ≤ length w.old }
     ensures size { result ≡ length (connection F.field s.now) }
     ensures list { conn.new ≡ connection F.field s.now ++ drop result conn.old }
     ensures some { 0 < result }

@@ -12,7 +12,8 @@ use slip::slip::Slip;
 
 // A slip with the changes subtracted from the row, nothing doubted.
 pub(crate) fn mended<F: Field>(slip: &Slip, records: &[Record]) -> Slip
-    requires { (F.Field.numbers.size ≡ 32) × (All (λ c. c.change < 32) records.now) }
+    requires size { F.Field.numbers.size ≡ 32 }
+    requires symbols { All (λ c. c.change < 32) records.now }
     ensures { view result ≡ map sure (less_row (less F.Field.numbers F.Field.field) 0 records.now (row (view slip.now))) }
 {
     let mut mended = Slip::new();
@@ -24,7 +25,9 @@ pub(crate) fn mended<F: Field>(slip: &Slip, records: &[Record]) -> Slip
 
 // A symbol with the changes at its place subtracted.
 fn lessened<F: Field>(symbol: u8, place: usize, records: &[Record]) -> u8
-    requires { (F.Field.numbers.size ≡ 32) × ((symbol < 32) × (All (λ c. c.change < 32) records.now)) }
+    requires size { F.Field.numbers.size ≡ 32 }
+    requires small { symbol < 32 }
+    requires symbols { All (λ c. c.change < 32) records.now }
     ensures symbol { result ≡ lessened (less F.Field.numbers F.Field.field) place records.now symbol }
     ensures below { result < 32 }
 {
@@ -39,7 +42,9 @@ fn lessened<F: Field>(symbol: u8, place: usize, records: &[Record]) -> u8
 
 // One symbol less another.
 fn less<F: Field>(x: u8, y: u8) -> u8
-    requires { (F.Field.numbers.size ≡ 32) × ((x < 32) × (y < 32)) }
+    requires size { F.Field.numbers.size ≡ 32 }
+    requires left { x < 32 }
+    requires right { y < 32 }
     ensures less { result ≡ less F.Field.numbers F.Field.field x y }
     ensures below { result < 32 }
 {

@@ -27,7 +27,8 @@ pub fn product_term<F: Field>(p: &[F], q: &[F], n: usize) -> F
 
 // The n terms of the product of two lists from a power on, written at the front of a third.
 pub(crate) fn series_product<F: Field>(p: &[F], q: &[F], from: usize, n: usize, out: &mut [F])
-    requires { (n ≤ length out.old) × (from + n < 2 ^ 64) }
+    requires room { n ≤ length out.old }
+    requires terms { from + n < 2 ^ 64 }
     ensures { out.new ≡ tab n (λ j. term_of F.field p.now (coeff F.field q.now) (from + j)) ++ drop n out.old }
 {
     for j in 0..n {

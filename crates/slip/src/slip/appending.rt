@@ -7,7 +7,8 @@ use super::Slip;
 impl Slip {
     // A place more, where there is room for it.
     pub(crate) fn push(&mut self, symbol: u8, doubted: bool)
-        requires { (symbol < 32) × (self.old.len < 89) }
+        requires small { symbol < 32 }
+        requires room { self.old.len < 89 }
         ensures book { view self.new ≡ view self.old ++ at symbol doubted ∷ [] }
         ensures more { self.new.len ≡ self.old.len + 1 }
     {

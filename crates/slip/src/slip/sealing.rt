@@ -52,7 +52,8 @@ impl Slip {
 
     // The numbers of symbols, undoubted.
     fn append<F: Field>(&mut self, symbols: &[F])
-        requires { (F.Field.numbers.size ≡ 32) × (self.old.len + length symbols.now ≤ 89) }
+        requires size { F.Field.numbers.size ≡ 32 }
+        requires room { self.old.len + length symbols.now ≤ 89 }
         ensures { view self.new ≡ view self.old ++ map sure (map F.Field.numbers.number symbols.now) }
     {
         for symbol in symbols {

@@ -8,10 +8,14 @@ pub error_value-requires : goal.error_value-requires
 error_value-requires g c =
     let F = g.E.Field.field in
     let is : c.in_ok-power.field-0 ≡ pow F c.args.a c.args.position = same_some c.power.result c.in_ok-power.was c.power.ensures in
-    (λ z. pow_ne_zero F c.args.a c.requires.0 c.args.position (sym is ∙ z), (c.requires.1.0, c.requires.1.1.1.0))
+    record {
+      nonzero = λ z. pow_ne_zero F c.args.a c.requires.nonzero c.args.position (sym is ∙ z);
+      small = c.requires.small;
+      some = c.requires.some;
+    }
 
 pub overflow_cast-result : goal.overflow_cast-result
 overflow_cast-result g c =
     let below = g.E.BaseField.Field.numbers.below c.in_ok-symbol.symbol in
-    let small : c.to_number.result < 256 = omega (arith, c.to_number.ensures, c.requires.1.1.1.1) in
+    let small : c.to_number.result < 256 = omega (arith, c.to_number.ensures, c.requires.size) in
     search rules

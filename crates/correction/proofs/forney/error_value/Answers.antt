@@ -12,7 +12,7 @@ returns-in_err-slope g c sloped =
     let x = c.args.x in
     let back = c.in_ok-back.back in
     let found : result_ok c.multiplicative_inverse.result ≡ Some back = cc (c.ok.ensures.value, c.in_ok-back.was) in
-    let is : back ≡ F.inv x = inverted F x back c.multiplicative_inverse.result c.requires.0 c.multiplicative_inverse.ensures found in
+    let is : back ≡ F.inv x = inverted F x back c.multiplicative_inverse.result c.requires.nonzero c.multiplicative_inverse.ensures found in
     let none : result_ok c.evaluate-2.result ≡ None = cc (c.ok-3.ensures.value, c.in_err-slope.was) in
     absurd (sloped (ap (eval F D) (sym is) ∙ unvalued F D back c.evaluate-2.result c.evaluate-2.ensures none))
 
@@ -24,11 +24,11 @@ returns g c sloped =
     let x = c.args.x in
     let back = c.in_ok-back.back in
     let found : result_ok c.multiplicative_inverse.result ≡ Some back = cc (c.ok.ensures.value, c.in_ok-back.was) in
-    let is : back ≡ F.inv x = inverted F x back c.multiplicative_inverse.result c.requires.0 c.multiplicative_inverse.ensures found in
+    let is : back ≡ F.inv x = inverted F x back c.multiplicative_inverse.result c.requires.nonzero c.multiplicative_inverse.ensures found in
     let valued : result_ok c.evaluate.result ≡ Some c.in_ok-value.value = cc (c.ok-2.ensures.value, c.in_ok-value.was) in
     let sloping : result_ok c.evaluate-2.result ≡ Some c.in_ok-slope.slope = cc (c.ok-3.ensures.value, c.in_ok-slope.was) in
     c.ok-4.ensures.value
-    ∙ forney_is F W D x c.in_ok-value.value c.in_ok-slope.slope c.in_ok-power.field-0 c.args.first c.quotient.result c.requires.0
+    ∙ forney_is F W D x c.in_ok-value.value c.in_ok-slope.slope c.in_ok-power.field-0 c.args.first c.quotient.result c.requires.nonzero
     (evaluated F W back c.in_ok-value.value c.evaluate.result c.evaluate.ensures valued ∙ ap (eval F W) is)
     (evaluated F D back c.in_ok-slope.slope c.evaluate-2.result c.evaluate-2.ensures sloping ∙ ap (eval F D) is)
     (same_some c.power.result c.in_ok-power.was c.power.ensures)

@@ -54,7 +54,7 @@ returns-then-second-n g c =
     }
 
 pub run-len-requires : goal.run-len-requires
-run-len-requires g c = (omega arith, omega arith)
+run-len-requires g c = record { list = omega arith; room = omega arith }
 
 pub returns : goal.returns
 returns g c =

@@ -15,7 +15,11 @@ returns-then-not-formed g c = decided_no (not_formed g.C.SymbolField.Field.numbe
     (not_from_Decides c.formed.result c.formed.ensures c.if-not-formed.true))
 
 pub mended-requires : goal.mended-requires
-mended-requires g c = (c.laws.ensures.alphabet, sensible_changes (view c.args.slip.now) c.number-nothing.result c.args.records.now (c.formed.ensures.0 c.if-not-formed.false).sensible)
+mended-requires g c =
+    record {
+      size = c.laws.ensures.alphabet;
+      symbols = sensible_changes (view c.args.slip.now) c.number-nothing.result c.args.records.now (c.formed.ensures.0 c.if-not-formed.false).sensible;
+    }
 
 pub engine-requires : goal.engine-requires
 engine-requires g c = search (rules, engine_fits)

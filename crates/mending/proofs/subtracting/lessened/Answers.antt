@@ -5,7 +5,12 @@ use Rattle.mending.proofs.subtracting.lessened.Goals as goal
 use Rattle.mending.proofs.subtracting.lessened.Goals.{then-record-place, else-record-place}
 
 pub less-left-requires : goal.less-left-requires
-less-left-requires g c = (c.requires.0, (c.loop-record.invariant.1, change_at c.args.records.now c.loop-record.record-index c.loop-record-test.true c.requires.1.1))
+less-left-requires g c =
+    record {
+      size = c.requires.size;
+      left = c.loop-record.invariant.1;
+      right = change_at c.args.records.now c.loop-record.record-index c.loop-record-test.true c.requires.symbols;
+    }
 
 pub loop-record-preserved : goal.loop-record-preserved
 loop-record-preserved g c =

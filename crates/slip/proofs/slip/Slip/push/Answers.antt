@@ -9,7 +9,7 @@ invariant_of-self c =
       all_symbols = length-set s.symbols s.len c.args.symbol ∙ s.all_symbols;
       all_marks = length-set s.doubted s.len c.args.doubted ∙ s.all_marks;
       room = omega arith;
-      below = set_below s.symbols s.len c.args.symbol c.requires.0 s.below;
+      below = set_below s.symbols s.len c.args.symbol c.requires.small s.below;
     }
 
 pub returns : goal.returns
