@@ -3,7 +3,7 @@
 --   Near     a sound row within the bound of a book
 --   Seals    check symbols that make a row sound
 --   Lawful   what holds of every code that keeps the laws of codes
---   rows_of   a code over a field, by the numbers of its symbols
+--   rows_of  a code over a field, by the numbers of its symbols
 use Rattle.std.specs.Prelude.{◌≡◌, ℕ, ◌<◌, ◌≤◌, Bool, true, false, not, ◌&&◌, List, [], ◌∷◌, ◌++◌, map, length, nat_lt}
 use Rattle.std.proofs.Math.Decide.{ℕ_discrete}
 use Rattle.algebra.specs.Code as code

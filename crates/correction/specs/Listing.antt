@@ -1,5 +1,5 @@
 -- Records listed one after another. Assumes nothing.
---   record_of   the record of a position of a row of n symbols, Y telling the changes
+--   record_of  the record of a position of a row of n symbols, Y telling the changes
 --   Added      a record is added, where there is room
 --   OnRow      a change at a position of a row of n symbols
 --   Listable   each position of a list has the change that Y tells, and there is room for their records

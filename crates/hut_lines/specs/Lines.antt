@@ -1,6 +1,6 @@
 -- The lines of a sheet. Assumes nothing.
 --   first_line, past_line   the bytes before the first newline, and those behind it
---   lines_of               a newline ends a line, and so does the last byte; no bytes make no line
+--   lines_of                a newline ends a line, and so does the last byte; no bytes make no line
 use Rattle.std.specs.Prelude.{ℕ, cond, List, [], ◌∷◌, ◌==◌}
 
 abbrev pub first_line : List ℕ → List ℕ

@@ -1,5 +1,5 @@
 -- What the hut tells of a sheet, in the words of its slip's book. Assumes nothing.
---   finish_rows   the finish code as its rows know it
+--   finish_rows  the finish code as its rows know it
 --   Says         what a typed line says: a finish, or why it is refused
 --   OnlySays     it says this, and nothing else
 --   shown        what is told of it

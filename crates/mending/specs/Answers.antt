@@ -1,5 +1,5 @@
 -- What solve and settle tell by their answers and by the lists that were lent. Assumes nothing.
---   told_list   the answer of a call, its records being at the front of a list
+--   told_list  the answer of a call, its records being at the front of a list
 --   written    how many of them are the answer's
 --   cleared    the working list after an answer: all ZERO once a row was looked for
 use Rattle.std.specs.Prelude.{ℕ, List, length, take, replicate, Ok, Err, Result}

@@ -1,7 +1,7 @@
 -- A row with changes subtracted, symbol by symbol. Assumes nothing.
 --   less       one symbol less another, by their numbers
 --   lessened   a symbol with the changes at its place subtracted
---   less_row    a row of such symbols
+--   less_row   a row of such symbols
 use Rattle.std.specs.Prelude.{ℕ, ◌+◌, cond, List, [], ◌∷◌, ◌==◌}
 use Rattle.algebra.specs.Field.{FieldOn, Numbers}
 use Rattle.book.specs.declared.record.Record.{Record}

@@ -1,6 +1,6 @@
 -- A script over several slips, in the words of their books. Assumes nothing.
 --   asked, heard   the call that a turn asks for, and the answer that a reply tells
---   calls_on        the calls on one slip, with the answers that they got
+--   calls_on       the calls on one slip, with the answers that they got
 --   Stories        for each slip, its calls lead from the book that it held to the book that it holds
 --   FreshStories   the same of fresh slips
 --   Decided        the book and the call decide the answer and the book after

@@ -1,7 +1,7 @@
 -- What a typed line does to a slip's book. Assumes nothing.
 --   before_slash   the part of a line that holds its groups
 --   line_case      the case of a line
---   taken         one byte of that part: the book after it, or why the line is refused there
+--   taken          one byte of that part: the book after it, or why the line is refused there
 --   take_line      a whole line, on a fresh book
 use Rattle.std.specs.Prelude.{ℕ, ◌+◌, Bool, cond, List, [], ◌∷◌, Ok, Err, Result, ◌==◌}
 use Rattle.std.specs.Option.{unwrap_or}

@@ -1,6 +1,6 @@
 -- Sealing a book by a code. Assumes nothing.
 --   elements       the elements that a row's numbers stand for
---   check_symbols   the numbers of the symbols that seal a book's row
+--   check_symbols  the numbers of the symbols that seal a book's row
 --   seal           the book after a seal, or why the code refuses
 use Rattle.std.specs.Prelude.{ℕ, ◌+◌, cond, List, ◌++◌, map, length, Ok, Err, Result, ◌==◌, nat_lt}
 use Rattle.algebra.specs.Code as code
