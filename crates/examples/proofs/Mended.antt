@@ -22,33 +22,33 @@ use Rattle.codes.proofs.FinishLaws.{finish_lawful}
 use Rattle.gf32.specs.Binary.{product}
 use Rattle.gf32.specs.Gf32.{gf32, fe_discrete, fe_path, gf32_numbers}
 use Rattle.gf32.specs.declared.gf32.Fe32.{Fe32}
-use Rattle.examples.specs.Mended.{finish_code_rows, sent, garbled, unsound, unchecked, Solves, Mended}
+use Rattle.examples.specs.Mended.{finish_rows, sent, garbled, unsound, unchecked, Solves, Mended}
 
 lifts : Lifts gf32 gf32 (λ (x : Fe32). x)
 lifts = record { sums = λ x y. refl; products = λ x y. refl; one_to_one = λ x y e. e }
 
-lawful : Lawful finish_code_rows
+lawful : Lawful finish_rows
 unfolding gf32_numbers
 lawful = rows_lawful gf32_numbers gf32 gf32 (λ (x : Fe32). x) lifts finish finish_lawful refl
 
-near_garbled : Near finish_code_rows garbled sent
+near_garbled : Near finish_rows garbled sent
 unfolding finish gf32 fe_discrete gf32_numbers product ℕ_discrete
 near_garbled = record { sound = refl; same_length = refl; close = lit≤ tt }
 
-near_doubted : Near finish_code_rows (mark 3 garbled) sent
+near_doubted : Near finish_rows (mark 3 garbled) sent
 unfolding finish gf32 fe_discrete gf32_numbers product ℕ_discrete
 near_doubted = record { sound = refl; same_length = refl; close = lit≤ tt }
 
-near_unchecked : Near finish_code_rows unchecked sent
+near_unchecked : Near finish_rows unchecked sent
 unfolding finish gf32 fe_discrete gf32_numbers product ℕ_discrete
 near_unchecked = record { sound = refl; same_length = refl; close = lit≤ tt }
 
 -- one more doubt would have to lead to the same row, which is then too far
-far_doubted : (n : List ℕ) → ¬ Near finish_code_rows (mark 4 (mark 3 garbled)) n
+far_doubted : (n : List ℕ) → ¬ Near finish_rows (mark 4 (mark 3 garbled)) n
 unfolding finish ℕ_discrete
 far_doubted n h =
-    let one : n ≡ sent = one_more_doubt_by ℕ_discrete (Sound finish_code_rows) finish_code_rows.bound finish_code_rows.limit lawful.apart (mark 3 garbled) 4 sent n (lit≤ tt) near_doubted h in
-    let k : 5 ≤ 4 = (subst (Near finish_code_rows (mark 4 (mark 3 garbled))) one h).close in
+    let one : n ≡ sent = one_more_doubt_by ℕ_discrete (Sound finish_rows) finish_rows.bound finish_rows.limit lawful.apart (mark 3 garbled) 4 sent n (lit≤ tt) near_doubted h in
+    let k : 5 ≤ 4 = (subst (Near finish_rows (mark 4 (mark 3 garbled))) one h).close in
     omega arith
 
 abbrev unsound_elements : rows.Book Fe32
@@ -82,7 +82,7 @@ unfolding finish
 short = lit≤ tt
 
 -- so there is no place for the one error that the register's length asks for
-far_unsound : (n : List ℕ) → ¬ Near finish_code_rows unsound n
+far_unsound : (n : List ℕ) → ¬ Near finish_rows unsound n
 far_unsound n h =
     let found = mends gf32 gf32 (λ (x : Fe32). x) lifts finish finish_lawful unsound_elements (elements gf32_numbers n) short (near_elements gf32_numbers gf32 finish unsound n small h) in
     none (error_positions gf32 gf32 (λ (x : Fe32). x) finish unsound_elements (elements gf32_numbers n))
@@ -92,10 +92,10 @@ far_unsound n h =
     none [] e f root = omega arith
     none (p ∷ ps) e f root = never_zero (gf32.inv (pow gf32 finish.root p)) (root p here)
 
-found_one : (b : Book) (n : List ℕ) → unmendable finish_code_rows 4 72 b ≡ None → Near finish_code_rows b n → Solves (b, lists finish_code_rows b n)
+found_one : (b : Book) (n : List ℕ) → unmendable finish_rows 4 72 b ≡ None → Near finish_rows b n → Solves (b, lists finish_rows b n)
 found_one b n free near a next f = (same lawful f (solves (one_near free near))).0
 
-found_none : (b : Book) → unmendable finish_code_rows 4 72 b ≡ None → ((n : List ℕ) → ¬ Near finish_code_rows b n) → Solves (b, refused (told Unfit))
+found_none : (b : Book) → unmendable finish_rows 4 72 b ≡ None → ((n : List ℕ) → ¬ Near finish_rows b n) → Solves (b, refused (told Unfit))
 found_none b free far a next f = (same lawful f (solves (none_near free far))).0
 
 pub mended : Mended

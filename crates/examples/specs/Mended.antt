@@ -10,8 +10,8 @@ use Rattle.book.specs.declared.record.Record.{Record}
 use Rattle.codes.specs.Finish.{finish}
 use Rattle.gf32.specs.Gf32.{gf32, gf32_numbers}
 
-abbrev pub finish_code_rows : Rows
-finish_code_rows = rows_of gf32_numbers gf32 finish
+abbrev pub finish_rows : Rows
+finish_rows = rows_of gf32_numbers gf32 finish
 
 abbrev pub sent : List ℕ
 sent = 4 ∷ 20 ∷ 20 ∷ 12 ∷ 15 ∷ 31 ∷ 0 ∷ 6 ∷ 10 ∷ 17 ∷ 15 ∷ 18 ∷ []
@@ -36,7 +36,7 @@ none_near = refused (told Unfit)
 
 -- solve, lent as many records and working entries as the code asks for, answers this and nothing else
 abbrev pub Solves : Book × Answer → Type 0
-Solves example = (a : Answer) (next : Book) → Follows example.0 (solve finish_code_rows 4 72) a next → a ≡ example.1
+Solves example = (a : Answer) (next : Book) → Follows example.0 (solve finish_rows 4 72) a next → a ≡ example.1
 
 abbrev pub examples : List (Book × Answer)
 examples =
