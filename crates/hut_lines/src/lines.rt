@@ -1,5 +1,5 @@
 // A typed line, and its output line.
-ghost use Rattle.std.specs.Prelude.{◌≡◌, map, slice_index_or};
+ghost use Rattle.std.specs.Prelude.{◌≡◌, slice_index_or};
 ghost use Rattle.book.specs.Book.{fresh};
 ghost use Rattle.book.specs.Calls.{Follows, settle};
 ghost use Rattle.hut_lines.specs.Shown.{OneWay, OnlySays, Shown, finish_rows, shown};

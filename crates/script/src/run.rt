@@ -1,5 +1,5 @@
 // Running a script.
-ghost use Rattle.std.specs.Prelude.{◌≡◌, map, length};
+ghost use Rattle.std.specs.Prelude.{◌≡◌, length};
 ghost use Rattle.book.specs.Calls.{Follows, said, solve, settle};
 ghost use Rattle.book.specs.CodeFaults.{told as code-told};
 ghost use Rattle.book.specs.Promise.{Promise};
