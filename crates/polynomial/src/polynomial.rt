@@ -1,8 +1,7 @@
 // Polynomials as coefficient lists: degree, value, derivative, and a cursor over roots.
-ghost use Rattle.std.specs.Prelude.{◌≡◌, ℕ, ◌+◌, ◌^◌, ◌<◌, ◌≤◌, min, ◌++◌, map, length};
+ghost use Rattle.std.specs.Prelude.{◌≡◌, map, length};
 ghost use Rattle.algebra.specs.Field.{multiple as times};
-ghost use Rattle.algebra.specs.Poly.{eval, tab, coeff};
-ghost use Rattle.algebra.specs.Series.{times as term_of};
+ghost use Rattle.algebra.specs.Poly.{eval};
 ghost use Rattle.fieldvec.specs.Faults.{asked, count, written};
 ghost use Rattle.polynomial.specs.Lists as spec;
 ghost use Rattle.polynomial.specs.Roots.{coming, Seeks, Passes, Stepped};
