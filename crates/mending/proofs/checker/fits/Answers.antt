@@ -1,6 +1,5 @@
 use Rattle.std.proofs.Common.{refl, ap, ◌∙◌, rules}
 use Rattle.std.proofs.lemmas.Bool.Decides.{not_from_Decides}
-use Rattle.checksum.specs.Engine.{held}
 use Rattle.checksum.proofs.Sizes.{engine_fits}
 use Rattle.slip.proofs.Below.{row_below}
 use Rattle.mending.proofs.Checking.{decided_no}
@@ -31,4 +30,4 @@ returns g c = fits_decided g.C.SymbolField.Field.numbers g.C.SymbolField.Field.f
     c.args.slip.now c.args.records.now c.number-nothing.result c.bound.result
     (c.number-nothing.ensures.number ∙ ap g.C.SymbolField.Field.numbers.number c.zero.ensures) c.bound.ensures
     (row_below 32 refl c.args.slip.now c.mended.ensures.holdable) (c.formed.ensures.0 c.if-not-formed.false) c.mended.result c.mended.ensures.mended
-    (held g.C.Checksum.code c.engine.result.entries) c.engine.ensures c.meets_target.result c.meets_target.ensures
+    c.engine.result c.engine.ensures c.meets_target.result c.meets_target.ensures
