@@ -1,6 +1,7 @@
 -- Lists of records, record by record. Assumes nothing.
-use Rattle.std.proofs.Common.{◌≡◌, ℕ, zero, suc, ◌+◌, ◌-◌, ◌/◌, ◌<◌, ◌≤◌, Bool, true, false, cond, List, [], ◌∷◌, length, get_or, take, drop, Decides, sym, refl, ap, subst, inl, inr, arith}
+use Rattle.std.proofs.Common.{◌≡◌, ℕ, zero, suc, ◌+◌, ◌-◌, ◌/◌, ◌<◌, ◌≤◌, Bool, true, false, cond, not, count_by, List, [], ◌∷◌, length, get_or, take, drop, Decides, sym, refl, ap, ◌∙◌, subst, inl, inr, arith}
 use Rattle.std.proofs.lemmas.List.{at_drop_more, at_drop_all, take_rest}
+use Rattle.std.proofs.lemmas.List.Recursion.{is_count_by}
 use Rattle.std.proofs.lemmas.Bool.{both_ways, cases_eq, cases_lt}
 use Rattle.algebra.specs.Series.{Mem, here, there}
 use Rattle.book.specs.Book.{Book, doubts, doubted_at}
@@ -24,6 +25,14 @@ front rs i h = at_drop_more (λ cs. cs) rs i blank h
 
 none : (rs : List Record) (i : ℕ) → length rs ≤ i → drop i rs ≡ []
 none rs i h = at_drop_all (λ cs. cs) rs i h
+
+-- how many records are not out, worked out record by record
+pub counted : (out : Record → Bool) (F : List Record → ℕ) → F [] ≡ 0 → ((c : Record) (cs : List Record) → F (c ∷ cs) ≡ cond (out c) 0 1 + F cs) → (cs : List Record) → count_by (λ c. not (out c)) cs ≡ F cs
+counted out F none more cs = sym (is_count_by F (λ c. not (out c)) none (λ c ds. more c ds ∙ by (out c) (F ds)) cs)
+  where
+    by : (t : Bool) (n : ℕ) → cond t 0 1 + n ≡ cond (not t) (1 + n) n
+    by true n = omega arith
+    by false n = refl
 
 module _ (p : ℕ) where
   mem_later : (i : ℕ) (rs : List Record) → Mem p (places (drop i rs)) → Mem p (places rs)
