@@ -1,4 +1,2 @@
 pub mod Checking
 pub mod Finding
-pub mod Fitted
-pub mod Lessening

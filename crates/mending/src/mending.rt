@@ -46,7 +46,7 @@ pub fn settle<C: Checksum>(
 {
     C::laws();
     let pattern = find::<C>(slip, records.len(), work)?;
-    *slip = mended::<C::SymbolField>(slip, pattern.records());
+    *slip = mended::<C>(slip, pattern.records());
     Ok(list::<C>(&pattern, records))
 }
 
@@ -104,7 +104,7 @@ fn list<C: Checksum>(pattern: &Pattern, records: &mut [Record]) -> (usize, usize
     records[..found.len()].copy_from_slice(found);
     (
         found.len(),
-        count_changes(found, number(C::SymbolField::zero())),
+        count_changes(found, number::<C>(C::SymbolField::zero())),
     )
 }
 
