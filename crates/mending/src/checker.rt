@@ -4,7 +4,6 @@ ghost use Rattle.algebra.specs.Series.{Mem};
 ghost use Rattle.book.specs.Codes.{rows_of};
 ghost use Rattle.book.specs.Mending.{places, elsewhere, Fits};
 ghost use Rattle.mending.specs.Checked.{Admits, Sensible, Covers, Formed};
-ghost use Rattle.slip.specs.View.{view};
 
 use crate::subtracting::{mended, number};
 use book::record::Record;
@@ -14,7 +13,7 @@ use slip::slip::Slip;
 
 /// Whether records are a pattern that fits the slip by a code.
 pub fn fits<C: Checksum>(slip: &Slip, records: &[Record]) -> bool
-    ensures { Decides result (Fits (rows_of C.SymbolField.Field.numbers C.SymbolField.Field.field C.Checksum.code) (view slip.now) records.now) }
+    ensures { Decides result (Fits (rows_of C.SymbolField.Field.numbers C.SymbolField.Field.field C.Checksum.code) slip.now records.now) }
 {
     C::laws();
     C::SymbolField::small();
@@ -35,7 +34,7 @@ struct Proposal<'a> {
 impl Proposal<'_> {
     // Whether the records are a pattern within the bound, whatever row they lead to.
     fn is_formed(&self, nothing: u8, bound: usize) -> bool
-        ensures { Decides result (Formed (view self.now.slip.now) nothing bound self.now.records.now) }
+        ensures { Decides result (Formed self.now.slip.now nothing bound self.now.records.now) }
     {
         let doubts = self.slip.doubts();
         doubts <= bound
@@ -46,7 +45,7 @@ impl Proposal<'_> {
 
     // How many records name undoubted places.
     fn elsewhere(&self) -> usize
-        ensures { result ≡ elsewhere (view self.now.slip.now) self.now.records.now }
+        ensures { result ≡ elsewhere self.now.slip.now self.now.records.now }
     {
         self.records
             .iter()
@@ -56,7 +55,7 @@ impl Proposal<'_> {
 
     // Whether each record can be part of a pattern, and no place is named twice.
     fn is_sensible(&self, nothing: u8) -> bool
-        ensures { Decides result (Sensible (view self.now.slip.now) nothing self.now.records.now) }
+        ensures { Decides result (Sensible self.now.slip.now nothing self.now.records.now) }
     {
         let mut rest = self.records;
         while let Some((record, later)) = rest.split_first() {
@@ -70,7 +69,7 @@ impl Proposal<'_> {
 
     // Whether each doubted place is named.
     fn covers(&self) -> bool
-        ensures { Decides result (Covers (view self.now.slip.now) self.now.records.now) }
+        ensures { Decides result (Covers self.now.slip.now self.now.records.now) }
     {
         (0..self.slip.len()).all(|place| !self.slip.is_doubted(place) || names(self.records, place))
     }
@@ -78,7 +77,7 @@ impl Proposal<'_> {
 
 // Whether a record names a place of the slip and a symbol, and changes something unless the place is doubted.
 fn admits(slip: &Slip, record: &Record, nothing: u8) -> bool
-    ensures { Decides result (Admits (view slip.now) nothing «record».now) }
+    ensures { Decides result (Admits slip.now nothing «record».now) }
 {
     record.place < slip.len()
         && record.change < 32

@@ -7,7 +7,6 @@ ghost use Rattle.book.specs.Mending.{nonzero};
 ghost use Rattle.book.specs.Patterns.{held};
 ghost use Rattle.mending.specs.Answers.{told_list, written, cleared};
 ghost use Rattle.mending.specs.Found.{Found};
-ghost use Rattle.slip.specs.View.{view};
 
 use crate::checker::fits;
 use crate::subtracting::{mended, number};
@@ -26,7 +25,7 @@ pub fn solve<C: Checksum>(
     records: &mut [Record],
     work: &mut [C::CorrectionField],
 ) -> Result<(usize, usize), CodeFault>
-    ensures follows { Follows (view slip.now) (solve (rows_of C.SymbolField.Field.numbers C.SymbolField.Field.field C.Checksum.code) (length records.old) (length work.old)) (told_list result records.new) (view slip.now) }
+    ensures follows { Follows slip.now (solve (rows_of C.SymbolField.Field.numbers C.SymbolField.Field.field C.Checksum.code) (length records.old) (length work.old)) (told_list result records.new) slip.now }
     ensures past { drop (written result) records.new ≡ drop (written result) records.old }
     ensures working { work.new ≡ cleared C.CorrectionField.Field.field result work.old }
 {
@@ -40,7 +39,7 @@ pub fn settle<C: Checksum>(
     records: &mut [Record],
     work: &mut [C::CorrectionField],
 ) -> Result<(usize, usize), CodeFault>
-    ensures follows { Follows (view slip.old) (settle (rows_of C.SymbolField.Field.numbers C.SymbolField.Field.field C.Checksum.code) (length records.old) (length work.old)) (told_list result records.new) (view slip.new) }
+    ensures follows { Follows slip.old (settle (rows_of C.SymbolField.Field.numbers C.SymbolField.Field.field C.Checksum.code) (length records.old) (length work.old)) (told_list result records.new) slip.new }
     ensures past { drop (written result) records.new ≡ drop (written result) records.old }
     ensures working { work.new ≡ cleared C.CorrectionField.Field.field result work.old }
 {
@@ -57,7 +56,7 @@ fn find<C: Checksum>(
     records: usize,
     work: &mut [C::CorrectionField],
 ) -> Result<Pattern, CodeFault>
-    ensures found { Found (rows_of C.SymbolField.Field.numbers C.SymbolField.Field.field C.Checksum.code) records (length work.old) (view slip.now) result }
+    ensures found { Found (rows_of C.SymbolField.Field.numbers C.SymbolField.Field.field C.Checksum.code) records (length work.old) slip.now result }
     ensures working { work.new ≡ cleared C.CorrectionField.Field.field result work.old }
 {
     C::laws();
@@ -70,7 +69,7 @@ fn find<C: Checksum>(
 
 // Whether a slip may be mended, whatever its symbols are, with lists of some lengths being lent, and if not, why.
 fn can_mend<C: Checksum>(slip: &Slip, records: usize, work: usize) -> Result<(), CodeFault>
-    ensures { result_err result ≡ unmendable (rows_of C.SymbolField.Field.numbers C.SymbolField.Field.field C.Checksum.code) records work (view slip.now) }
+    ensures { result_err result ≡ unmendable (rows_of C.SymbolField.Field.numbers C.SymbolField.Field.field C.Checksum.code) records work slip.now }
 {
     C::laws();
     let bound = bound::<C>();

@@ -1,10 +1,9 @@
 // Changes subtracted from a slip's row.
-ghost use Rattle.std.specs.Prelude.{◌≡◌, ◌<◌, ◌≤◌, map, length};
-ghost use Rattle.algebra.specs.Series.{All};
+ghost use Rattle.std.specs.Prelude.{◌≡◌, ◌<◌, ◌≤◌, All, map, length};
 ghost use Rattle.book.specs.Book.{row, sure};
 ghost use Rattle.book.specs.Codes.{rows_of};
 ghost use Rattle.book.specs.Mending.{subtracted};
-ghost use Rattle.slip.specs.View.{view};
+ghost use Rattle.slip.specs.View.{Holdable};
 
 use book::record::Record;
 use checksum::checksum::Checksum;
@@ -15,7 +14,8 @@ use slip::slip::Slip;
 // A slip with the changes subtracted from the row, nothing doubted.
 pub(crate) fn mended<C: Checksum>(slip: &Slip, records: &[Record]) -> Slip
     requires { All (λ c. c.change < 32) records.now }
-    ensures { view result ≡ map sure (subtracted (rows_of C.SymbolField.Field.numbers C.SymbolField.Field.field C.Checksum.code) records.now (row (view slip.now))) }
+    ensures mended { result ≡ map sure (subtracted (rows_of C.SymbolField.Field.numbers C.SymbolField.Field.field C.Checksum.code) records.now (row slip.now)) }
+    ensures holdable { Holdable result }
 {
     let mut memory = [0; 89];
     let symbols = &mut memory[..slip.len()];
@@ -42,7 +42,7 @@ fn subtract<C: Checksum>(symbols: &mut [u8], records: &[Record])
 fn undoubted(symbols: &[u8]) -> Slip
     requires small { All (λ v. v < 32) symbols.now }
     requires room { length symbols.now ≤ 89 }
-    ensures { view result ≡ map sure symbols.now }
+    ensures { result ≡ map sure symbols.now }
 {
     let mut slip = Slip::new();
     for symbol in symbols {

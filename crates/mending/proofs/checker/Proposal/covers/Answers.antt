@@ -3,13 +3,12 @@ use Rattle.std.proofs.lemmas.Iterator.{YieldsList-from_range, cases_from_all}
 use Rattle.algebra.specs.Series.{Mem}
 use Rattle.book.specs.Book.{doubted_at}
 use Rattle.book.specs.Mending.{places}
-use Rattle.slip.specs.View.{view}
 use Rattle.mending.proofs.Checking.{covers_decided}
 use Rattle.mending.proofs.checker.Proposal.covers.Goals as goal
 
 pub returns : goal.returns
 returns c =
-    let b = view c.args.self.now.slip.now in
+    let b = c.args.self.now.slip.now in
     let cs = c.args.self.now.records.now in
     covers_decided b cs c.len.result c.len.ensures c.all.result
     (cases_from_all _ _ _ (λ p. doubted_at p b ≡ true → Mem p (places cs)) (λ p. (doubted_at p b ≡ true) × ¬ Mem p (places cs)) c.all.ensures.ran
