@@ -1,16 +1,16 @@
 -- Lists of records, record by record. Assumes nothing.
-use Rattle.std.proofs.Common.{◌≡◌, ℕ, ◌+◌, ◌*◌, ◌<◌, ◌≤◌, Bool, true, false, cond, not, eqb, ◌||◌, ◌⊎◌, ◌↔◌, count_by, List, [], ◌∷◌, length, MatchBool, Decides, sym, refl, ◌∙◌, subst, inl, inr, arith}
+use Rattle.std.proofs.Common.{◌≡◌, ℕ, ◌+◌, ◌<◌, Bool, true, false, cond, not, eqb, ◌||◌, ◌⊎◌, count_by, List, [], ◌∷◌, length, MatchBool, Decides, sym, refl, ◌∙◌, subst, inl, inr, arith}
 use Rattle.std.specs.List.{AllWithin, HoldsAt, list_any, range_with_len}
 use Rattle.std.proofs.lemmas.List.FromFn.{length-range_with_len, get_or-range_with_len}
 use Rattle.std.proofs.lemmas.List.Recursion.{is_count_by}
-use Rattle.std.proofs.lemmas.Bool.{both_ways, cases_lt, false≢true}
+use Rattle.std.proofs.lemmas.Bool.{both_ways, cases_lt}
 use Rattle.std.proofs.lemmas.Bool.Decides.{Decides-eqb, Decides-like, Decides-or}
 use Rattle.algebra.specs.Series.{Mem, here, there}
-use Rattle.book.specs.Book.{Book, doubts, doubted_at}
-use Rattle.book.specs.Mending.{places, elsewhere}
+use Rattle.book.specs.Book.{Book, doubted_at}
+use Rattle.book.specs.Mending.{places}
 use Rattle.book.specs.declared.record.Record.{Record}
 use Rattle.slip.proofs.Places.{doubted_at_past}
-use Rattle.mending.specs.Checked.{Admits, Sensible, Covers, Formed}
+use Rattle.mending.specs.Checked.{Covers}
 
 pub decided_yes : {P : Type 0} → P → Decides true P
 decided_yes p = (λ q. p, λ q. refl)

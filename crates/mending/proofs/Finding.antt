@@ -1,6 +1,6 @@
 -- From a proposal and what the checker says of it to the answers of solve and settle. Assumes nothing.
 use Rattle.std.proofs.Common.{◌≡◌, ℕ, ◌+◌, ◌*◌, ◌<◌, ◌≤◌, Bool, true, false, cond, eqb, ltb, leb, Decides, List, [], ◌∷◌, ◌++◌, count_by, map, length, not, take, drop, Some, None, Ok, Option, sym, refl, ap, ◌∙◌, subst, arith}
-use Rattle.std.proofs.lemmas.List.{take_at, drop_at}
+use Rattle.std.proofs.lemmas.List.{take_at}
 use Rattle.std.proofs.lemmas.Bool.{le-ltb, ltb-false}
 use Rattle.std.proofs.lemmas.Bool.Decides.{not_from_Decides}
 use Rattle.std.specs.Option.{MatchOption, ok_or}
@@ -19,11 +19,9 @@ use Rattle.book.proofs.Fitting.{changes_fit, few_changes, fits_near}
 use Rattle.book.specs.Patterns.{held}
 use Rattle.correction.specs.Proposals.{Proposes, worked}
 use Rattle.book.specs.declared.pattern.Pattern.{Pattern}
-use Rattle.mending.specs.Answers.{after_fault, told_list, zeros}
+use Rattle.mending.specs.Answers.{after_fault, zeros}
 use Rattle.mending.specs.Found.{Finding, Found}
-use Rattle.mending.specs.Lessened.{less_row}
 use Rattle.mending.proofs.Checking.{counted}
-use Rattle.mending.proofs.Lessening.{subtracted_row}
 
 -- the five tests, as they came out
 abbrev tests : (s t u v w : Bool) → Option CodeFault
@@ -139,9 +137,9 @@ module _ (C : Rows) (r w : ℕ) (b : Book) where
     solved = subst (λ a. Follows b (solve C r w) a b) (sym answer) (solves (one_near f.workable f.near))
 
     -- es, a copy, was subtracted
-    pub settled_by : (es : List Record) → es ≡ cs → (next : Book) → next ≡ map sure (less_row C.less 0 es (row b)) → Follows b (settle C r w) (listed (take i rs) i j) next
+    pub settled_by : (es : List Record) → es ≡ cs → (next : Book) → next ≡ map sure (subtracted C es (row b)) → Follows b (settle C r w) (listed (take i rs) i j) next
     settled_by es same next is-next =
-        let row_is : next ≡ map sure f.meant = is-next ∙ ap (λ fs. map sure (less_row C.less 0 fs (row b))) same ∙ ap (map sure) (sym (subtracted_row C cs (row b)) ∙ f.subtracts) in
+        let row_is : next ≡ map sure f.meant = is-next ∙ ap (λ fs. map sure (subtracted C fs (row b))) same ∙ ap (map sure) f.subtracts in
         subst (λ d. Follows b (settle C r w) (listed (take i rs) i j) d) (sym row_is) (subst (λ a. Follows b (settle C r w) a (map sure f.meant)) (sym answer) (settles (one_near f.workable f.near)))
 
 -- the records that change something, as they are counted

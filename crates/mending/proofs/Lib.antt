@@ -1,2 +1,4 @@
 pub mod Checking
 pub mod Finding
+pub mod Fitted
+pub mod Lessening

@@ -18,10 +18,7 @@ pub fn fits<C: Checksum>(slip: &Slip, records: &[Record]) -> bool
     C::laws();
     C::SymbolField::small();
     let proposal = Proposal { slip, records };
-    proposal.is_formed(number::<C>(C::SymbolField::zero()), bound::<C>())
-        && mended::<C>(slip, records)
-            .engine::<C>()
-            .meets_target()
+    proposal.is_formed::<C>() && mended::<C>(slip, records).engine::<C>().meets_target()
 }
 
 // Records that are proposed for a slip.
@@ -33,13 +30,15 @@ struct Proposal<'a> {
 
 impl Proposal<'_> {
     // Whether the records are a pattern within the bound, whatever row they lead to.
-    fn is_formed(&self, nothing: u8, bound: usize) -> bool
-        ensures { Decides result (Formed self.now.slip.now nothing bound self.now.records.now) }
+    fn is_formed<C: Checksum>(&self) -> bool
+        ensures { let C = rows_of C.SymbolField.Field.numbers C.SymbolField.Field.field C.Checksum.code in Decides result (Formed self.now.slip.now C.nothing C.bound self.now.records.now) }
     {
+        C::laws();
+        let bound = bound::<C>();
         let doubts = self.slip.doubts();
         doubts <= bound
             && self.elsewhere() <= (bound - doubts) / 2
-            && self.is_sensible(nothing)
+            && self.is_sensible(number::<C>(C::SymbolField::zero()))
             && self.covers()
     }
 

@@ -7,6 +7,7 @@ ghost use Rattle.book.specs.Mending.{nonzero};
 ghost use Rattle.book.specs.Patterns.{held};
 ghost use Rattle.mending.specs.Answers.{told_list, written, cleared};
 ghost use Rattle.mending.specs.Found.{Found};
+ghost use Rattle.slip.specs.View.{Holdable};
 
 use crate::checker::fits;
 use crate::subtracting::{mended, number};
@@ -69,7 +70,8 @@ fn find<C: Checksum>(
 
 // Whether a slip may be mended, whatever its symbols are, with lists of some lengths being lent, and if not, why.
 fn can_mend<C: Checksum>(slip: &Slip, records: usize, work: usize) -> Result<(), CodeFault>
-    ensures { result_err result ≡ unmendable (rows_of C.SymbolField.Field.numbers C.SymbolField.Field.field C.Checksum.code) records work slip.now }
+    ensures fault { result_err result ≡ unmendable (rows_of C.SymbolField.Field.numbers C.SymbolField.Field.field C.Checksum.code) records work slip.now }
+    ensures holdable { Holdable slip.now }
 {
     C::laws();
     let bound = bound::<C>();

@@ -1,4 +1,3 @@
-use Rattle.std.proofs.Common.{◌∙◌}
 use Rattle.book.specs.Codes.{rows_of}
 use Rattle.book.specs.Patterns.{held}
 use Rattle.mending.proofs.Finding.{nonzero_counted, zero_number}

@@ -10,6 +10,6 @@ pub returns : goal.returns
 returns c =
     let b = c.args.self.now.slip.now in
     let cs = c.args.self.now.records.now in
-    covers_decided b cs c.len.result c.len.ensures c.all.result
+    covers_decided b cs c.len.result c.len.ensures.len c.all.result
     (cases_from_all _ _ _ (λ p. doubted_at p b ≡ true → Mem p (places cs)) (λ p. (doubted_at p b ≡ true) × ¬ Mem p (places cs)) c.all.ensures.ran
     (YieldsList-from_range 0 c.len.result c.len.result refl (omega arith)) (λ x q k. search (rules, tests)) (λ x q k. search (rules, tests)))

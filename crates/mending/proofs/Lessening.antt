@@ -1,0 +1,45 @@
+-- A row from which changes are subtracted one after another. Assumes nothing.
+use Rattle.std.proofs.Common.{◌≡◌, ℕ, zero, suc, ◌+◌, ◌<◌, ◌≤◌, All, List, [], ◌∷◌, map, length, get_or, drop, set, sym, refl, ap, ◌∙◌, subst, arith}
+use Rattle.std.proofs.lemmas.List.{at_drop_more, length-map, set_past}
+use Rattle.algebra.specs.Series as series
+use Rattle.book.specs.Book.{row, sure}
+use Rattle.book.specs.Codes.{Rows}
+use Rattle.book.specs.Mending.{subtracted}
+use Rattle.book.specs.declared.record.Record.{Record}
+use Rattle.slip.specs.View.{Holdable}
+
+-- what a slice holds past its end
+abbrev blank : Record
+blank = record { place = 0; change = 0 }
+
+module _ (C : Rows) (rs : List Record) (i : ℕ) (vs : List ℕ) (whole : List ℕ) (h : i < length rs) (inv : subtracted C (drop i rs) vs ≡ whole) where
+  pub subtract_more : (x : ℕ) → x ≡ C.less (get_or vs (get_or rs i blank).place 0) (get_or rs i blank).change → subtracted C (drop (i + 1) rs) (set vs (get_or rs i blank).place x) ≡ whole
+  subtract_more x is = rw is (sym (at_drop_more (λ cs. subtracted C cs vs) rs i blank h) ∙ inv)
+
+  -- a change past the row's end changes nothing
+  pub subtract_past : length vs ≤ (get_or rs i blank).place → subtracted C (drop (i + 1) rs) vs ≡ whole
+  subtract_past out =
+      let x = C.less (get_or vs (get_or rs i blank).place 0) (get_or rs i blank).change in
+      ap (subtracted C (drop (i + 1) rs)) (sym (set_past vs (get_or rs i blank).place x out)) ∙ subtract_more x refl
+
+pub row_sure : (vs : List ℕ) → row (map sure vs) ≡ vs
+row_sure [] = refl
+row_sure (v ∷ vs) = ap (λ (ws : List ℕ). v ∷ ws) (row_sure vs)
+
+-- between what holds at each place and the same by recursion
+pub at_each : {X : Type 0} (P : X → Type 0) (xs : List X) → series.All P xs → All P xs
+at_each P [] h k d l = absurd (omega arith)
+at_each P (x ∷ xs) h zero d l = h.0
+at_each P (x ∷ xs) h (suc k) d l = at_each P xs h.1 k d (omega arith)
+
+pub each : {X : Type 0} (P : X → Type 0) (xs : List X) → All P xs → series.All P xs
+each P [] h = tt
+each P (x ∷ xs) h = (h 0 x (omega arith), each P xs (λ k d l. h (suc k) d (omega arith)))
+
+pub sure_holdable : (vs : List ℕ) → length vs ≤ 89 → All (λ v. v < 32) vs → Holdable (map sure vs)
+sure_holdable vs room below =
+    let long : ◌≡◌ {A = ℕ} (length (map sure vs)) (length vs) = length-map vs sure in
+    record {
+      room = omega arith;
+      symbols = subst (λ (ws : List ℕ). series.All (λ v. v < 32) ws) (sym (row_sure vs)) (each (λ v. v < 32) vs below);
+    }
