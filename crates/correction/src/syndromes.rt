@@ -1,12 +1,11 @@
 // Syndromes: the residue of a slip's row less the target, at the roots of the generator polynomial. They depend on the
 // row's changes alone.
 ghost use Rattle.std.specs.Prelude.{◌≡◌, ◌+◌, ◌<◌, ◌≤◌, ◌++◌, map, length, drop};
-ghost use Rattle.algebra.specs.Code.{bound, residue};
+ghost use Rattle.algebra.specs.Code.{bound, checks};
 ghost use Rattle.algebra.specs.Field.{pow};
 ghost use Rattle.algebra.specs.Poly.{eval, poly_sub, tab};
 ghost use Rattle.algebra.specs.Rows.{syndrome};
 ghost use Rattle.book.specs.Book.{row};
-ghost use Rattle.checksum.specs.Engine.{padded};
 ghost use Rattle.slip.specs.Sealing.{elements};
 
 use checksum::checksum::Checksum;
@@ -46,36 +45,30 @@ fn values_at_powers<E: ExtensionField>(
     }
 }
 
-// The coefficients of a slip's residue less the target's, with ZEROs past them.
-fn residue_error<C: Checksum>(slip: &Slip) -> [C::SymbolField; 16]
-    ensures { result ≡ padded C.SymbolField.Field.field (poly_sub C.SymbolField.Field.field (residue C.SymbolField.Field.field C.Checksum.code (elements C.SymbolField.Field.numbers (row slip.now))) C.Checksum.code.target) }
+// Takes the target's coefficients off a residue's.
+fn subtract_target<C: Checksum>(residue: &mut [C::SymbolField])
+    requires { length residue.old ≡ checks C.Checksum.code }
+    ensures { residue.new ≡ poly_sub C.SymbolField.Field.field residue.old C.Checksum.code.target }
 {
     C::laws();
-    C::SymbolField::small();
-    let engine = slip.engine::<C>();
-    let residue = engine.residue();
-    let mut error = [C::SymbolField::zero(); 16];
-    for power in 0..C::checksum_length() {
-        error[power] = difference(residue[power], C::target_residue(power));
+    for (power, coefficient) in residue.iter_mut().enumerate() {
+        *coefficient = difference(*coefficient, C::target_residue(power));
     }
-    error
 }
 
 // The syndromes of a slip's row, as many as the bound, at the front of a list.
+#[tactic(auto, using(checksum::proofs::Sizes::engine_fits))]
 pub(crate) fn syndromes<C: Checksum>(slip: &Slip, out: &mut [C::CorrectionField])
     requires { bound C.Checksum.code ≤ length out.old }
     ensures { out.new ≡ tab (bound C.Checksum.code) (syndrome C.SymbolField.Field.field C.CorrectionField.Field.field C.CorrectionField.ExtensionField.lifted C.Checksum.code (elements C.SymbolField.Field.numbers (row slip.now))) ++ drop (bound C.Checksum.code) out.old }
 {
     C::laws();
     C::SymbolField::small();
-    let error = residue_error::<C>(slip);
-    let error = &error[..];
+    let engine = slip.engine::<C>();
+    let mut error = [C::SymbolField::zero(); 16];
+    let error = &mut error[..C::checksum_length()];
+    error.copy_from_slice(engine.residue());
+    subtract_target::<C>(error);
     let (first, last) = C::root_exponents();
-    values_at_powers(
-        &error[0..C::checksum_length()],
-        C::root_generator(),
-        first,
-        last - first + 1,
-        out,
-    );
+    values_at_powers(error, C::root_generator(), first, last - first + 1, out);
 }

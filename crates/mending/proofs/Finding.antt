@@ -16,7 +16,6 @@ use Rattle.book.specs.declared.code_fault.CodeFault.{CodeFault}
 use Rattle.book.specs.declared.code_fault.CodeFault.TheVariants.{Short, Long, Records, Working, Doubts, Unfit}
 use Rattle.book.specs.declared.record.Record.{Record}
 use Rattle.book.proofs.Fitting.{changes_fit, few_changes, fits_near}
-use Rattle.book.specs.Patterns.{held}
 use Rattle.correction.specs.Proposals.{Proposes, worked}
 use Rattle.book.specs.declared.pattern.Pattern.{Pattern}
 use Rattle.mending.specs.Answers.{after_fault, zeros}
@@ -82,30 +81,30 @@ module _ (C : Rows) (r w : ℕ) (b : Book) where
     symbols : All (λ v. v < C.size) (row b)
     symbols = subst (λ (k : ℕ). All (λ v. v < k) (row b)) (sym law.alphabet) below
 
-    pub found : (p : Pattern) → Proposes C b w (Some p) → Fits C b (held p) → Found C r w b (Ok p)
+    pub found : (p : Pattern) → Proposes C b w (Some p) → Fits C b p → Found C r w b (Ok p)
     found p proposes fits =
-        let n = subtracted C (held p) (row b) in
-        let near : Near C b n = fits_near C b (held p) fits in
+        let n = subtracted C p (row b) in
+        let near : Near C b n = fits_near C b p fits in
         let can = able none in
-        let same : Some (held p) ≡ Some (changes C b n) = proposes n can.short can.working near in
-        let listed : held p ≡ changes C b n = cc in
+        let same : Some p ≡ Some (changes C b n) = proposes n can.short can.working near in
+        let listed : p ≡ changes C b n = cc in
         let few = few_changes C b n near in
-        let long : ◌≡◌ {A = ℕ} (length (held p)) (length (changes C b n)) = ap length listed in
+        let long : ◌≡◌ {A = ℕ} (length p) (length (changes C b n)) = ap length listed in
         record {
           meant = n;
           workable = none;
           near = near;
           listed = listed;
           subtracts = refl;
-          symbols = subst (λ (k : ℕ). All (λ c. c.change < k) (held p)) law.alphabet fits.symbols;
+          symbols = subst (λ (k : ℕ). All (λ c. c.change < k) p) law.alphabet fits.symbols;
           room = omega (arith, few, long, can.room);
         }
 
-    unfit : (p : Pattern) → Proposes C b w (Some p) → ¬ Fits C b (held p) → Mends C r w b (refused (told Unfit)) None
+    unfit : (p : Pattern) → Proposes C b w (Some p) → ¬ Fits C b p → Mends C r w b (refused (told Unfit)) None
     unfit p proposes never = none_near none (λ n near.
         let can = able none in
-        let same : Some (held p) ≡ Some (changes C b n) = proposes n can.short can.working near in
-        let listed : held p ≡ changes C b n = cc in
+        let same : Some p ≡ Some (changes C b n) = proposes n can.short can.working near in
+        let listed : p ≡ changes C b n = cc in
         never (subst (Fits C b) (sym listed) (changes_fit C law b n symbols near)))
 
     none_found : Proposes C b w None → Mends C r w b (refused (told Unfit)) None
@@ -115,12 +114,12 @@ module _ (C : Rows) (r w : ℕ) (b : Book) where
         let z : ◌≡◌ {A = ℕ} 0 1 = cc in omega arith)
 
     -- a proposal that does not fit says that no row is near
-    pub checked : (proposed kept : Option Pattern) (Answers : Pattern → Bool → Type 0) → ((p : Pattern) (t : Bool) → Answers p t → Decides t (Fits C b (held p)))
+    pub checked : (proposed kept : Option Pattern) (Answers : Pattern → Bool → Type 0) → ((p : Pattern) (t : Bool) → Answers p t → Decides t (Fits C b p))
         → Proposes C b w proposed → MatchOption proposed (kept ≡ None) (λ p. (t : Bool) × Answers p t × (kept ≡ then_some t p)) → Found C r w b (ok_or kept Unfit)
     checked None kept Answers decides proposes q = rw q (none_found proposes)
     checked (Some p) kept Answers decides proposes (t, a, q) = rw q (by t (decides p t a))
       where
-        by : (t : Bool) → Decides t (Fits C b (held p)) → Found C r w b (ok_or (then_some t p) Unfit)
+        by : (t : Bool) → Decides t (Fits C b p) → Found C r w b (ok_or (then_some t p) Unfit)
         by true d = found p proposes (d.0 refl)
         by false d = unfit p proposes (not_from_Decides false d refl)
 

@@ -10,7 +10,6 @@ use Rattle.book.specs.Codes.{Rows, Near}
 use Rattle.book.specs.Mending.{changes, subtracted}
 use Rattle.book.specs.declared.code_fault.CodeFault.{CodeFault}
 use Rattle.book.specs.declared.record.Record.{Record}
-use Rattle.book.specs.Patterns.{held}
 use Rattle.book.specs.declared.pattern.Pattern.{Pattern}
 
 pub record Finding (C : Rows) (r w : ℕ) (b : Book) (cs : List Record) : Type 0 where
@@ -23,5 +22,5 @@ pub record Finding (C : Rows) (r w : ℕ) (b : Book) (cs : List Record) : Type 0
   pub room : length cs ≤ r
 
 abbrev pub Found : Rows → ℕ → ℕ → Book → Result Pattern CodeFault → Type 0
-Found C r w b (Ok pattern) = Finding C r w b (held pattern)
+Found C r w b (Ok pattern) = Finding C r w b pattern
 Found C r w b (Err fault) = Mends C r w b (refused (told fault)) None

@@ -5,13 +5,15 @@ ghost use Rattle.book.specs.Codes.{rows_of};
 ghost use Rattle.book.specs.Mending.{places, elsewhere, Fits};
 ghost use Rattle.mending.specs.Checked.{Admits, Sensible, Covers, Formed};
 
-use crate::subtracting::{mended, number};
+use crate::subtracting::mended;
 use book::record::Record;
 use checksum::checksum::{Checksum, bound};
+use checksum::symbols::number;
 use field::field::Field;
 use slip::slip::Slip;
 
 /// Whether records are a pattern that fits the slip by a code.
+#[tactic(auto, using(checksum::proofs::Sizes::engine_fits))]
 pub fn fits<C: Checksum>(slip: &Slip, records: &[Record]) -> bool
     ensures { Decides result (Fits (rows_of C.SymbolField.Field.numbers C.SymbolField.Field.field C.Checksum.code) slip.now records.now) }
 {

@@ -4,17 +4,17 @@ ghost use Rattle.std.specs.Result.{result_err};
 ghost use Rattle.book.specs.Calls.{Follows, solve, settle, unmendable};
 ghost use Rattle.book.specs.Codes.{rows_of};
 ghost use Rattle.book.specs.Mending.{nonzero};
-ghost use Rattle.book.specs.Patterns.{held};
 ghost use Rattle.mending.specs.Answers.{told_list, written, cleared};
 ghost use Rattle.mending.specs.Found.{Found};
 ghost use Rattle.slip.specs.View.{Holdable};
 
 use crate::checker::fits;
-use crate::subtracting::{mended, number};
+use crate::subtracting::mended;
 use book::code_fault::CodeFault;
 use book::pattern::Pattern;
 use book::record::Record;
 use checksum::checksum::{Checksum, bound};
+use checksum::symbols::number;
 use correction::correction::bch_errors;
 use field::field::{ExtensionField, Field};
 use slip::slip::Slip;
@@ -95,10 +95,10 @@ fn can_mend<C: Checksum>(slip: &Slip, records: usize, work: usize) -> Result<(),
 
 // Writes a pattern's records at the front of others, and answers how many they are and how many change something.
 fn list<C: Checksum>(pattern: &Pattern, records: &mut [Record]) -> (usize, usize)
-    requires { length (held pattern.now) ≤ length records.old }
-    ensures many { result.0 ≡ length (held pattern.now) }
-    ensures changed { result.1 ≡ nonzero (rows_of C.SymbolField.Field.numbers C.SymbolField.Field.field C.Checksum.code) (held pattern.now) }
-    ensures listed { records.new ≡ held pattern.now ++ drop (length (held pattern.now)) records.old }
+    requires { length pattern.now ≤ length records.old }
+    ensures many { result.0 ≡ length pattern.now }
+    ensures changed { result.1 ≡ nonzero (rows_of C.SymbolField.Field.numbers C.SymbolField.Field.field C.Checksum.code) pattern.now }
+    ensures listed { records.new ≡ pattern.now ++ drop (length pattern.now) records.old }
 {
     C::laws();
     let found = pattern.records();

@@ -7,8 +7,8 @@ ghost use Rattle.slip.specs.View.{Holdable};
 
 use book::record::Record;
 use checksum::checksum::Checksum;
+use checksum::symbols::{element, number};
 use field::arithmetic::difference;
-use field::field::Field;
 use slip::slip::Slip;
 
 // A slip with the changes subtracted from the row, nothing doubted.
@@ -58,23 +58,7 @@ fn less<C: Checksum>(x: u8, y: u8) -> u8
     ensures less { result ≡ (rows_of C.SymbolField.Field.numbers C.SymbolField.Field.field C.Checksum.code).less x y }
     ensures below { result < 32 }
 {
-    number::<C>(difference(element::<C>(x), element::<C>(y)))
-}
-
-// The element that stands for a number of the alphabet.
-fn element<C: Checksum>(number: u8) -> C::SymbolField
-    requires { number < 32 }
-    ensures { result ≡ C.SymbolField.Field.numbers.element number }
-{
-    C::laws();
-    C::SymbolField::from_number(u16::from(number)).unwrap()
-}
-
-// The number of a symbol.
-pub(crate) fn number<C: Checksum>(symbol: C::SymbolField) -> u8
-    ensures number { result ≡ C.SymbolField.Field.numbers.number symbol }
-    ensures below { result < 32 }
-{
-    C::laws();
-    symbol.to_number() as u8
+    let x = element::<C>(x).unwrap();
+    let y = element::<C>(y).unwrap();
+    number::<C>(difference(x, y))
 }

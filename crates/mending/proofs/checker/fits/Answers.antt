@@ -1,8 +1,6 @@
-use Rattle.std.proofs.Common.{false, rules}
+use Rattle.std.proofs.Common.{false}
 use Rattle.std.proofs.lemmas.Bool.Decides.{Decides-at, not_from_Decides}
 use Rattle.book.specs.Codes.{rows_of}
-use Rattle.checksum.specs.Engine.{held}
-use Rattle.checksum.proofs.Sizes.{engine_fits}
 use Rattle.mending.proofs.Checking.{decided_no}
 use Rattle.mending.proofs.Fitted.{sensible_changes, not_formed, fits_decided}
 use Rattle.mending.proofs.checker.fits.Goals as goal
@@ -17,14 +15,8 @@ mended-requires g c =
     let C = rows_of g.C.SymbolField.Field.numbers g.C.SymbolField.Field.field g.C.Checksum.code in
     sensible_changes c.args.slip.now C.nothing c.args.records.now (c.is_formed.ensures.0 c.if-is_formed.true).sensible
 
-pub engine-requires : goal.engine-requires
-engine-requires g c = search (rules, engine_fits)
-
-pub meets_target-requires : goal.meets_target-requires
-meets_target-requires g c = search (rules, engine_fits)
-
 pub returns-then-is_formed : goal.returns-then-is_formed
 returns-then-is_formed g c =
     fits_decided g.C.SymbolField.Field.numbers g.C.SymbolField.Field.field g.C.Checksum.code c.laws.ensures.alphabet c.args.slip.now c.args.records.now
     (c.is_formed.ensures.0 c.if-is_formed.true) c.mended.result c.mended.ensures.mended c.mended.ensures.holdable
-    (held g.C.Checksum.code c.engine.result.entries) c.engine.ensures c.meets_target.result c.meets_target.ensures
+    c.engine.result c.engine.ensures c.meets_target.result c.meets_target.ensures

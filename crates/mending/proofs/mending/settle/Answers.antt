@@ -2,13 +2,12 @@ use Rattle.std.proofs.Common.{◌<◌, length}
 use Rattle.std.proofs.lemmas.Result.{err_from_is_err_and}
 use Rattle.book.specs.Calls.{settles}
 use Rattle.book.specs.Codes.{rows_of}
-use Rattle.book.specs.Patterns.{held}
 use Rattle.mending.proofs.Finding.{settled_by}
 use Rattle.mending.proofs.Lessening.{at_each}
 use Rattle.mending.proofs.mending.settle.Goals as goal
 
 pub mended-requires : goal.mended-requires
-mended-requires g c = rw c.records.ensures (at_each (λ r. r.change < 32) (held c.in_ok-pattern.pattern) c.in_ok-pattern.ensures.found.symbols)
+mended-requires g c = rw c.records.ensures (at_each (λ r. r.change < 32) c.in_ok-pattern.pattern c.in_ok-pattern.ensures.found.symbols)
 
 pub returns-in_err-pattern-clause-follows : goal.returns-in_err-pattern-clause-follows
 returns-in_err-pattern-clause-follows g c =
@@ -18,6 +17,6 @@ returns-in_err-pattern-clause-follows g c =
 pub returns-clause-follows : goal.returns-clause-follows
 returns-clause-follows g c =
     let C = rows_of g.C.SymbolField.Field.numbers g.C.SymbolField.Field.field g.C.Checksum.code in
-    settled_by C (length c.args.records.now) (length c.args.work.now) c.args.slip.now (held c.in_ok-pattern.pattern) c.list.new.records c.args.records.now
+    settled_by C (length c.args.records.now) (length c.args.work.now) c.args.slip.now c.in_ok-pattern.pattern c.list.new.records c.args.records.now
     c.list.result.0 c.list.result.1 c.in_ok-pattern.ensures.found c.list.ensures.many c.list.ensures.changed c.list.ensures.listed
     c.records.result.now c.records.ensures c.mended.result c.mended.ensures.mended
