@@ -14,6 +14,7 @@ use crate::script::{Ask, Reply, Turn};
 use book::code_fault::CodeFault;
 use book::record::Record;
 use book::slip_fault::SlipFault;
+use field::fault::Refusal;
 use slip::slip::Slip;
 
 /// Runs a script: makes the turns' calls one after another, each on the slip that its turn names, and puts each answer
@@ -103,7 +104,7 @@ fn slip_reply(answer: Result<(), SlipFault>) -> Reply
 {
     match answer {
         Ok(()) => Reply::Done,
-        Err(fault) => Reply::Refused(fault.refusal()),
+        Err(fault) => Reply::Refused(Refusal::from(fault)),
     }
 }
 
@@ -112,7 +113,7 @@ fn code_reply(answer: Result<(), CodeFault>) -> Reply
 {
     match answer {
         Ok(()) => Reply::Done,
-        Err(fault) => Reply::Refused(fault.refusal()),
+        Err(fault) => Reply::Refused(Refusal::from(fault)),
     }
 }
 
@@ -122,6 +123,6 @@ fn list_reply(answer: Result<(usize, usize), CodeFault>, records: [Record; 16]) 
 {
     match answer {
         Ok((written, nonzero)) => Reply::Listed(Listing::new(records, written, nonzero)),
-        Err(fault) => Reply::Refused(fault.refusal()),
+        Err(fault) => Reply::Refused(Refusal::from(fault)),
     }
 }
