@@ -3,6 +3,7 @@ use Rattle.std.proofs.Common.{◌≡◌, ℕ, ◌+◌, ◌<◌, ◌≤◌, Bool,
 use Rattle.std.proofs.lemmas.Bool.Decides.{nat_tests}
 use Rattle.std.proofs.lemmas.List.{drop_all, take_all}
 use Rattle.std.specs.List.{position, position_or_len}
+use Rattle.typed.proofs.Fronts.{is_before_first}
 use Rattle.typed.specs.Lines.{before, first_line, lines_of, past_line}
 
 -- where the first newline stands, or else the end
@@ -10,12 +11,7 @@ abbrev pub newline : List ℕ → ℕ
 newline bytes = position_or_len (λ b. eqb b 10) bytes
 
 first_line_is : (bytes : List ℕ) → first_line bytes ≡ take (newline bytes) bytes
-first_line_is [] = refl
-first_line_is (byte ∷ bytes) =
-    elim (eqb byte 10) as (λ t. cond t [] (byte ∷ first_line bytes) ≡ take (cond (not t) (1 + newline bytes) 0) (byte ∷ bytes)) [
-      | true ↦ refl
-      | false ↦ simp (one-add, first_line_is bytes)
-    ]
+first_line_is bytes = is_before_first first_line (λ b. eqb b 10) refl (λ _ _. refl) bytes
 
 past_line_is : (bytes : List ℕ) → past_line bytes ≡ drop (newline bytes + 1) bytes
 past_line_is [] = refl

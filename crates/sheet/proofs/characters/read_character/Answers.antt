@@ -1,10 +1,10 @@
 -- The last letters of the match, which lie too far back for the search.
-use Rattle.std.proofs.Common.{◌≡◌, ℕ, ◌⊎◌, sym, refl, ap, ◌∙◌, inl, inr}
+use Rattle.std.proofs.Common.{◌≡◌, ℕ, ◌⊎◌, Option, sym, refl, ap, ◌∙◌, inl, inr}
 use Rattle.sheet.specs.Characters.{character_of}
 use Rattle.sheet.specs.declared.characters.Character.{Character}
 use Rattle.sheet.proofs.characters.read_character.Goals as goal
 
-in_either_case : {byte a b : ℕ} (said : Character) → said ≡ character_of a → said ≡ character_of b → (byte ≡ a) ⊎ (byte ≡ b) → said ≡ character_of byte
+in_either_case : {byte a b : ℕ} (said : Option Character) → said ≡ character_of a → said ≡ character_of b → (byte ≡ a) ⊎ (byte ≡ b) → said ≡ character_of byte
 in_either_case said s t (inl e) = s ∙ ap character_of (sym e)
 in_either_case said s t (inr e) = t ∙ ap character_of (sym e)
 
