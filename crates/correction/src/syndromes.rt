@@ -8,7 +8,6 @@ ghost use Rattle.algebra.specs.Rows.{syndrome};
 ghost use Rattle.book.specs.Book.{row};
 ghost use Rattle.checksum.specs.Engine.{padded};
 ghost use Rattle.slip.specs.Sealing.{elements};
-ghost use Rattle.slip.specs.View.{view};
 
 use checksum::checksum::Checksum;
 use field::arithmetic::difference;
@@ -49,7 +48,7 @@ fn values_at_powers<E: ExtensionField>(
 
 // The coefficients of a slip's residue less the target's, with ZEROs past them.
 fn residue_error<C: Checksum>(slip: &Slip) -> [C::SymbolField; 16]
-    ensures { result ≡ padded C.SymbolField.Field.field (poly_sub C.SymbolField.Field.field (residue C.SymbolField.Field.field C.Checksum.code (elements C.SymbolField.Field.numbers (row (view slip.now)))) C.Checksum.code.target) }
+    ensures { result ≡ padded C.SymbolField.Field.field (poly_sub C.SymbolField.Field.field (residue C.SymbolField.Field.field C.Checksum.code (elements C.SymbolField.Field.numbers (row slip.now))) C.Checksum.code.target) }
 {
     C::laws();
     C::SymbolField::small();
@@ -65,7 +64,7 @@ fn residue_error<C: Checksum>(slip: &Slip) -> [C::SymbolField; 16]
 // The syndromes of a slip's row, as many as the bound, at the front of a list.
 pub(crate) fn syndromes<C: Checksum>(slip: &Slip, out: &mut [C::CorrectionField])
     requires { bound C.Checksum.code ≤ length out.old }
-    ensures { out.new ≡ tab (bound C.Checksum.code) (syndrome C.SymbolField.Field.field C.CorrectionField.Field.field C.CorrectionField.ExtensionField.lifted C.Checksum.code (elements C.SymbolField.Field.numbers (row (view slip.now)))) ++ drop (bound C.Checksum.code) out.old }
+    ensures { out.new ≡ tab (bound C.Checksum.code) (syndrome C.SymbolField.Field.field C.CorrectionField.Field.field C.CorrectionField.ExtensionField.lifted C.Checksum.code (elements C.SymbolField.Field.numbers (row slip.now))) ++ drop (bound C.Checksum.code) out.old }
 {
     C::laws();
     C::SymbolField::small();

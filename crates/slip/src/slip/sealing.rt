@@ -4,7 +4,7 @@ ghost use Rattle.algebra.specs.Code.{checks, residue, Sound};
 ghost use Rattle.checksum.specs.Engine.{held};
 ghost use Rattle.book.specs.Book.{answer, after, row, sure};
 ghost use Rattle.slip.specs.Sealing.{check_symbols, elements, seal};
-ghost use Rattle.slip.specs.View.{view};
+ghost use Rattle.slip.specs.View.{Holdable};
 
 use super::Slip;
 use book::code_fault::CodeFault;
@@ -15,9 +15,10 @@ use field::field::Field;
 impl Slip {
     /// Seal: appends the k check symbols, undoubted, that make the row sound by the code.
     pub fn seal<C: Checksum>(&mut self) -> Result<(), CodeFault>
-        ensures answer { result ≡ answer (seal C.SymbolField.Field.numbers C.SymbolField.Field.field C.Checksum.code (view self.old)) }
-        ensures book { view self.new ≡ after (view self.old) (seal C.SymbolField.Field.numbers C.SymbolField.Field.field C.Checksum.code (view self.old)) }
-        ensures sound { result ≡ Ok tt → Sound C.SymbolField.Field.field C.Checksum.code (elements C.SymbolField.Field.numbers (row (view self.new))) }
+        ensures answer { result ≡ answer (seal C.SymbolField.Field.numbers C.SymbolField.Field.field C.Checksum.code self.old) }
+        ensures book { self.new ≡ after self.old (seal C.SymbolField.Field.numbers C.SymbolField.Field.field C.Checksum.code self.old) }
+        ensures holdable { Holdable self.old }
+        ensures sound { result ≡ Ok tt → Sound C.SymbolField.Field.field C.Checksum.code (elements C.SymbolField.Field.numbers (row self.new)) }
     {
         C::laws();
         if self.len == 0 {
@@ -32,7 +33,7 @@ impl Slip {
 
     /// The code's engine after the slip's row.
     pub fn engine<C: Checksum>(&self) -> Engine<C>
-        ensures { held C.Checksum.code result.entries ≡ residue C.SymbolField.Field.field C.Checksum.code (elements C.SymbolField.Field.numbers (row (view self.now))) }
+        ensures { held C.Checksum.code result.entries ≡ residue C.SymbolField.Field.field C.Checksum.code (elements C.SymbolField.Field.numbers (row self.now)) }
     {
         C::SymbolField::small();
         engine_of::<C>(self.symbols())
@@ -40,8 +41,8 @@ impl Slip {
 
     // The check symbols, where there is room for them.
     fn append_checks<C: Checksum>(&mut self)
-        requires { self.old.len + checks C.Checksum.code ≤ 89 }
-        ensures { view self.new ≡ view self.old ++ map sure (check_symbols C.SymbolField.Field.numbers C.SymbolField.Field.field C.Checksum.code (row (view self.old))) }
+        requires { length self.old + checks C.Checksum.code ≤ 89 }
+        ensures { self.new ≡ self.old ++ map sure (check_symbols C.SymbolField.Field.numbers C.SymbolField.Field.field C.Checksum.code (row self.old)) }
     {
         C::laws();
         C::SymbolField::small();
@@ -53,8 +54,8 @@ impl Slip {
     // The numbers of symbols, undoubted.
     fn append<F: Field>(&mut self, symbols: &[F])
         requires size { F.Field.numbers.size ≡ 32 }
-        requires room { self.old.len + length symbols.now ≤ 89 }
-        ensures { view self.new ≡ view self.old ++ map sure (map F.Field.numbers.number symbols.now) }
+        requires room { length self.old + length symbols.now ≤ 89 }
+        ensures { self.new ≡ self.old ++ map sure (map F.Field.numbers.number symbols.now) }
     {
         for symbol in symbols {
             self.push(number(*symbol), false);

@@ -6,9 +6,7 @@ use Rattle.algebra.specs.Poly.{tab}
 use Rattle.algebra.specs.Rows.{count, syndrome}
 use Rattle.book.specs.Book.{row}
 use Rattle.book.proofs.Numbers.{elements}
-use Rattle.slip.specs.View.{view}
 use Rattle.slip.proofs.Below.{row_below}
-use Rattle.slip.proofs.Places.{length_view}
 use Rattle.book.proofs.Doubts.{doubts_places}
 use Rattle.correction.specs.Decoded.{Tells}
 use Rattle.correction.proofs.Nearby.{proposes}
@@ -22,12 +20,11 @@ in_parts-proposal-requires g c =
     let small = lawful.bound_small in
     let last = lawful.exponents_small in
     let is_bound = c.bound-bound.ensures in
-    let held : length c.marks.result.now ≡ length (view slip) = ap length c.marks.ensures ∙ length-map (view slip) (λ a. a.doubted) in
-    let places = length_view slip in
+    let held : length c.marks.result.now ≡ length slip = ap length c.marks.ensures.marks ∙ length-map slip (λ a. a.doubted) in
     let first : c.root_exponents-first.result.0 ≡ g.C.Checksum.code.first = ap (λ (r : ℕ × ℕ). r.0) c.root_exponents-first.ensures in
     record {
-      given = (c.doubts.ensures ∙ doubts_places (view c.args.slip.now) ∙ ap count (sym c.marks.ensures), (omega arith, (omega arith, λ z. lawful.root_ne_zero (sym c.root_generator.ensures ∙ z))));
-      small = (omega arith, (omega (arith, slip.room), c.laws.ensures.alphabet));
+      given = (c.doubts.ensures ∙ doubts_places c.args.slip.now ∙ ap count (sym c.marks.ensures.marks), (omega arith, (omega arith, λ z. lawful.root_ne_zero (sym c.root_generator.ensures ∙ z))));
+      small = (omega arith, (omega (arith, c.marks.ensures.holdable.room), c.laws.ensures.alphabet));
       room = omega arith;
     }
 
@@ -42,7 +39,7 @@ returns g c =
     let list = c.syndromes.new.out in
     let ms = c.marks.result.now in
     let r = c.in_parts-proposal.result in
-    let S = tab (bound C) (syndrome s e up C (elements N (row (view slip)))) in
+    let S = tab (bound C) (syndrome s e up C (elements N (row slip))) in
     let is-list : list ≡ S = c.syndromes.ensures ∙ ap (λ t. S ++ t) (drop_all (bound C) c.split_at_mut-s.result.0.now (omega (arith, c.bound-bound.ensures))) ∙ append-nil S in
     let first : c.root_exponents-first.result.0 ≡ C.first = ap (λ (p : ℕ × ℕ). p.0) c.root_exponents-first.ensures in
     let tells : Tells e up N list ms C.root C.first r =
@@ -51,6 +48,6 @@ returns g c =
     record {
       proposes = λ n short long near.
           proposes N s e up c.lift_laws.ensures C c.laws.ensures.lawful g.C.CorrectionField.Field.numbers g.C.CorrectionField.Field.units g.met.C.CorrectionField.Field.cyclic
-          (view slip) (row_below N.size c.laws.ensures.alphabet slip) list ms is-list c.marks.ensures n short near r tells;
+          slip (row_below N.size c.laws.ensures.alphabet slip c.marks.ensures.holdable) list ms is-list c.marks.ensures.marks n short near r tells;
       after = simp (le-ltb (length c.args.work.now) (12 * (bound C + 2)) enough) (search rules);
     }

@@ -7,7 +7,6 @@ use Rattle.checksum.proofs.Sizes.{engine_fits}
 use Rattle.book.specs.Book.{row}
 use Rattle.decoding.proofs.ResidueErrors.{error_more, error_all}
 use Rattle.slip.specs.Sealing.{elements}
-use Rattle.slip.specs.View.{view}
 use Rattle.correction.proofs.syndromes.residue_error.Goals as goal
 
 pub engine-engine-requires : goal.engine-engine-requires
@@ -29,7 +28,7 @@ loop-power-preserved g c =
     let r = c.residue-residue.result.now in
     let i = c.loop-power.power in
     let is-k = c.checksum_length-power-end.ensures in
-    let long : length r ≡ checks code = ap length (c.residue-residue.ensures ∙ c.engine-engine.ensures) ∙ length_residue F code (elements g.C.SymbolField.Field.numbers (row (view c.args.slip.now))) in
+    let long : length r ≡ checks code = ap length (c.residue-residue.ensures ∙ c.engine-engine.ensures) ∙ length_residue F code (elements g.C.SymbolField.Field.numbers (row c.args.slip.now)) in
     error_more F r code.target (omega arith) (omega arith) i c.loop-power.error c.index-residue-power.result c.target_residue.result c.difference.result (omega arith)
     c.loop-power.invariant c.index-residue-power.is c.target_residue.ensures c.difference.ensures
 
@@ -43,6 +42,6 @@ returns g c =
     let r = c.residue-residue.result.now in
     let is-k = c.checksum_length-power-end.ensures in
     let is-r = c.residue-residue.ensures ∙ c.engine-engine.ensures in
-    let long : length r ≡ checks code = ap length is-r ∙ length_residue F code (elements g.C.SymbolField.Field.numbers (row (view c.args.slip.now))) in
+    let long : length r ≡ checks code = ap length is-r ∙ length_residue F code (elements g.C.SymbolField.Field.numbers (row c.args.slip.now)) in
     error_all F r code.target (omega arith) (omega arith) c.loop-power.power c.loop-power.error (omega arith) c.loop-power.invariant
     ∙ ap (λ q. padded F (poly_sub F q code.target)) is-r

@@ -1,15 +1,16 @@
-use Rattle.std.proofs.Common.{arith}
-use Rattle.slip.specs.View.{view}
+use Rattle.std.proofs.Common.{false, length, ap, arith}
+use Rattle.std.proofs.lemmas.List.{length_push}
+use Rattle.slip.specs.View.{at}
 use Rattle.slip.proofs.Sealing.{append_more, append_all}
 use Rattle.slip.proofs.slip.Slip.append.Goals as goal
 
 pub loop-symbol-preserved : goal.loop-symbol-preserved
 loop-symbol-preserved g c = (
-  append_more g.F.Field.numbers (view c.loop-symbol.self) (view c.push.new.self) _ c.args.symbols.now c.loop-symbol.symbol-index
-      c.number.result c.symbol-item.result c.loop-symbol-test.true c.push.ensures.book c.number.ensures.number c.symbol-item.is c.loop-symbol.invariant.0,
-  omega (arith, c.push.ensures.more, c.loop-symbol.invariant.1),
+  append_more g.F.Field.numbers c.loop-symbol.self c.push.new.self _ c.args.symbols.now c.loop-symbol.symbol-index
+      c.number.result c.symbol-item.result c.loop-symbol-test.true c.push.ensures c.number.ensures.number c.symbol-item.is c.loop-symbol.invariant.0,
+  omega (arith, ap length c.push.ensures, length_push c.loop-symbol.self (at c.number.result false), c.loop-symbol.invariant.1),
 )
 
 pub returns : goal.returns
 returns g c =
-    append_all g.F.Field.numbers (view c.loop-symbol.self) _ c.args.symbols.now c.loop-symbol.symbol-index c.loop-symbol-test.false c.loop-symbol.invariant.0
+    append_all g.F.Field.numbers c.loop-symbol.self _ c.args.symbols.now c.loop-symbol.symbol-index c.loop-symbol-test.false c.loop-symbol.invariant.0

@@ -2,7 +2,6 @@ use Rattle.std.proofs.Common.{◌++◌, map, refl, ap, ◌∙◌, rules}
 use Rattle.checksum.specs.Engine.{held}
 use Rattle.checksum.proofs.Sizes.{engine_fits, sixteen_fit}
 use Rattle.book.specs.Book.{row, sure}
-use Rattle.slip.specs.View.{view}
 use Rattle.slip.proofs.Sealing.{front_seal}
 use Rattle.slip.proofs.slip.Slip.append_checks.Goals as goal
 
@@ -15,7 +14,7 @@ closing-closing-requires g c = search (rules, engine_fits, sixteen_fit)
 pub returns : goal.returns
 returns g c =
     let code = g.C.Checksum.code in
-    let b = view c.args.self.now in
+    let b = c.args.self.now in
     c.append.ensures
     ∙ ap (λ vs. b ++ map sure vs)
     (front_seal g.C.SymbolField.Field.numbers g.C.SymbolField.Field.field code c.laws.ensures.lawful.target_length
