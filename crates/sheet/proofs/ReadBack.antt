@@ -1,8 +1,8 @@
 -- A symbol that is written reads as itself, in either case: tried for each of the 32.
-use Rattle.std.proofs.Common.{◌≡◌, ℕ, zero, suc, ◌<◌, Bool, true, false, ◌&&◌, eqb, ltb, get_or, Some, None, Option, sym, refl, ap, ◌∙◌, arith}
-use Rattle.std.proofs.lemmas.Bool.{eqb-true, eq-eqb, false≢true, cond-true, lt-ltb}
+use Rattle.std.proofs.Common.{◌≡◌, ℕ, zero, suc, ◌<◌, Bool, true, false, ◌&&◌, eqb, get_or, Some, None, Option, refl, ap, ◌∙◌, arith}
+use Rattle.std.proofs.lemmas.Bool.{eqb-true, eq-eqb, false≢true}
 use Rattle.std.proofs.lemmas.Bool.Decides.{Decides-below_and}
-use Rattle.sheet.specs.Characters.{alphabet, character_of, in_case, written}
+use Rattle.sheet.specs.Characters.{alphabet, character_of, in_case}
 use Rattle.sheet.specs.declared.characters.Character.{Character}
 use Rattle.sheet.specs.declared.characters.Character.TheVariants.{Symbol, QuestionMark}
 use Rattle.sheet.specs.declared.characters.Case.{Case}
@@ -35,9 +35,9 @@ reads_back case v h =
     (λ k. (says_so k (character_read_back case k), λ e. ap (says k) e ∙ eq-eqb k k refl))
     refl (λ _. refl) 32).0 (all_32 case) v h
 
--- what writing answers, from the small character that was found at a place, and its case
-pub writes : (case : Case) (v i small byte : ℕ) → i ≡ v → (i < 32) × ((d : ℕ) → small ≡ get_or alphabet i d) → byte ≡ in_case case small → (Some byte ≡ written case v) × (character_of byte ≡ Some (Symbol v))
-writes case v i small byte same found b =
+-- what is written reads as the symbol, from the small character that was found at a place, and its case
+pub reads_as : (case : Case) (v i small byte : ℕ) → i ≡ v → (i < 32) × ((d : ℕ) → small ≡ get_or alphabet i d) → byte ≡ in_case case small → character_of byte ≡ Some (Symbol v)
+reads_as case v i small byte same found b =
     let h : v < 32 = omega arith in
     let e : byte ≡ in_case case (get_or alphabet v 0) = b ∙ ap (in_case case) (found.1 0 ∙ ap (λ n. get_or alphabet n 0) same) in
-    (ap Some e ∙ sym (cond-true (ltb v 32) _ _ (lt-ltb v 32 h)), ap character_of e ∙ reads_back case v h)
+    ap character_of e ∙ reads_back case v h

@@ -31,6 +31,7 @@ pub fn take_known_line(slip: &mut Slip, line: &[u8]) -> Result<(), LineFault>
     take(slip, line, false)
 }
 
+// Whether a line may hold blanks is a bool, as in the clauses: the two functions above give each choice its name.
 fn take(slip: &mut Slip, line: &[u8], blanks: bool) -> Result<(), LineFault>
     ensures answer { result ≡ answer (take_line blanks line.now) }
     ensures book { slip.new ≡ after fresh (take_line blanks line.now) }

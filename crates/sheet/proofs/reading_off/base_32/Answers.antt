@@ -1,7 +1,7 @@
 use Rattle.std.proofs.Common.{◌≡◌, ℕ, zero, suc, ◌+◌, ◌*◌, ◌<◌, ◌^◌, List, [], ◌∷◌, Some, length, get_or, map, take, sym, subst, refl, ap, ◌∙◌, arith, rules}
 use Rattle.std.proofs.lemmas.Fn.{serves_by}
 use Rattle.std.proofs.lemmas.Iterator.{YieldsList-from_slice}
-use Rattle.std.proofs.lemmas.Iterator.Consumers.{fold_from_yields_List, YieldsList-so_far, YieldsList-turn}
+use Rattle.std.proofs.lemmas.Iterator.Consumers.{YieldsList-so_far, YieldsList-turn}
 use Rattle.std.proofs.lemmas.List.{length-take, map-append}
 use Rattle.std.proofs.lemmas.List.Sums.{fold_push}
 use Rattle.sheet.specs.ReadingOff.{digits_after}
@@ -36,6 +36,3 @@ fold-requires-clause-callable c =
     let here = YieldsList-turn (YieldsList-from_slice digits cc) xs t y (Some x) u x refl st in
     let small : q.1 < 2 ^ 19 = subst (λ (n : ℕ). n < 2 ^ 19) (sym (j ∙ ap (digits_after 0) front)) (room (take (length xs) digits) (omega (arith, length-take (length xs) digits)) (front_bytes (length xs) digits (λ k. search rules))) in
     search rules)
-
-pub returns : goal.returns
-returns c = fold_from_yields_List _ (λ n digit. n * 32 + digit) 0 _ c.fold.ensures.ran (YieldsList-from_slice c.args.digits.now cc) (λ n x m q k. search rules)
