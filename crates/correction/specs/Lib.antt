@@ -3,3 +3,4 @@ pub mod Forney
 pub mod Listing
 pub mod Proposals
 pub mod Room
+pub mod Changes

@@ -10,6 +10,7 @@ ghost use Rattle.correction.specs.Proposals.{Proposes, worked};
 ghost use Rattle.correction.specs.Room.{Room};
 ghost use Rattle.slip.specs.View.{view};
 
+use crate::forney::Forney;
 use crate::listing::{list_erasures, list_errors};
 use crate::locating::locate;
 use crate::syndromes::syndromes;
@@ -103,18 +104,14 @@ fn propose<E: ExtensionField>(
     if found.errors - 1 > (s.len() - doubts) / 2 {
         return None;
     }
-    let evaluator = &evaluator[..found.evaluator];
-    let derivative = &derivative[..found.derivative];
-    let mut pattern = Pattern::new();
-    list_erasures(marks, evaluator, derivative, a, first, &mut pattern)?;
-    list_errors(
-        &conn[..found.errors],
-        marks.len(),
-        evaluator,
-        derivative,
-        a,
+    let forney = Forney {
+        evaluator: &evaluator[..found.evaluator],
+        derivative: &derivative[..found.derivative],
+        root: a,
         first,
-        &mut pattern,
-    )?;
+    };
+    let mut pattern = Pattern::new();
+    list_erasures(&forney, marks, &mut pattern)?;
+    list_errors(&forney, &conn[..found.errors], marks.len(), &mut pattern)?;
     Some(pattern)
 }
