@@ -30,6 +30,7 @@ fn values_at_powers<E: ExtensionField>(list: &[E::BaseField], a: E, first: usize
 }
 
 // The coefficients of a slip's residue less the target's, with ZEROs past them.
+#[tactic(auto, using(checksum::proofs::Sizes::engine_fits))]
 fn residue_error<C: Checksum>(slip: &Slip) -> [C::SymbolField; 16]
     ensures { result ≡ padded C.SymbolField.Field.field (poly_sub C.SymbolField.Field.field (residue C.SymbolField.Field.field C.Checksum.code (elements C.SymbolField.Field.numbers (row (view slip.now)))) C.Checksum.code.target) }
 {
