@@ -21,11 +21,12 @@ pub enum CodeFault {
     Unfit,
 }
 
-impl CodeFault {
-    pub fn refusal(&self) -> Refusal
-        ensures { result ≡ told self.now }
-    {
-        let number = match *self {
+/// What the code's refusal tells.
+impl From<CodeFault> for Refusal {
+    ghost from_gives = { λ fault r. r ≡ told fault };
+
+    fn from(fault: CodeFault) -> Refusal {
+        let number = match fault {
             CodeFault::Short => 4,
             CodeFault::Long => 5,
             CodeFault::Records => 6,

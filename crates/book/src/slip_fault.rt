@@ -15,11 +15,12 @@ pub enum SlipFault {
     Absent(usize),
 }
 
-impl SlipFault {
-    pub fn refusal(&self) -> Refusal
-        ensures { result ≡ told self.now }
-    {
-        match *self {
+/// What the slip's refusal tells.
+impl From<SlipFault> for Refusal {
+    ghost from_gives = { λ fault r. r ≡ told fault };
+
+    fn from(fault: SlipFault) -> Refusal {
+        match fault {
             SlipFault::Symbol => Refusal {
                 number: 1,
                 layer: Layer::Slip,

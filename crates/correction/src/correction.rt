@@ -7,7 +7,6 @@ ghost use Rattle.book.specs.Book.{marks};
 ghost use Rattle.book.specs.Codes.{rows_of};
 ghost use Rattle.correction.specs.Decoded.{Tells};
 ghost use Rattle.correction.specs.Proposals.{Proposes, worked};
-ghost use Rattle.slip.specs.View.{view};
 
 use crate::forney::Forney;
 use crate::listing::{list_erasures, list_errors};
@@ -23,7 +22,7 @@ use slip::slip::Slip;
 /// none is, they may be anything, so a proposal is to be checked. The working list has 12 × (bound + 2) entries at least: it is
 /// cut into parts from its front, which are lent on, and is all ZERO after. Nothing is proposed where it is shorter.
 pub fn bch_errors<C: Checksum>(slip: &Slip, work: &mut [C::CorrectionField]) -> Option<Pattern>
-    ensures proposes { Proposes (rows_of C.SymbolField.Field.numbers C.SymbolField.Field.field C.Checksum.code) (view slip.now) (length work.old) result }
+    ensures proposes { Proposes (rows_of C.SymbolField.Field.numbers C.SymbolField.Field.field C.Checksum.code) slip.now (length work.old) result }
     ensures after { work.new ≡ worked C.CorrectionField.Field.field (bound C.Checksum.code) work.old }
 {
     C::laws();
@@ -47,7 +46,7 @@ fn propose<C: Checksum>(
 ) -> Option<Pattern>
     requires syndromes { length s.now ≡ bound C.Checksum.code }
     requires room { 8 * (length s.now + 2) ≤ length work.old }
-    ensures { Tells C.CorrectionField.Field.field C.CorrectionField.ExtensionField.lifted C.SymbolField.Field.numbers s.now (marks (view slip.now)) C.Checksum.code.root C.Checksum.code.first result }
+    ensures { Tells C.CorrectionField.Field.field C.CorrectionField.ExtensionField.lifted C.SymbolField.Field.numbers s.now (marks slip.now) C.Checksum.code.root C.Checksum.code.first result }
 {
     C::laws();
     let doubts = slip.doubts();

@@ -15,6 +15,7 @@ use field::field::Field;
 use lfsr::lfsr::berlekamp_massey;
 use polynomial::polynomial::formal_derivative;
 use products::products::{convolution, mul_mod_x_d};
+use std::mem;
 
 /// What decoding finds: the error locator, and the evaluator and the derivative of the locator of errors and erasures.
 pub(crate) struct Located<'a, E> {
@@ -33,9 +34,8 @@ fn times_linear<F: Field>(list: &mut [F], x: F)
     };
     let mut below = F::zero();
     for entry in list.iter_mut() {
-        let own = *entry;
-        *entry = difference(own, x.mul(below));
-        below = own;
+        let next = difference(*entry, x.mul(below));
+        below = mem::replace(entry, next);
     }
     *top = difference(F::zero(), x.mul(below));
 }

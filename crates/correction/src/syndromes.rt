@@ -1,14 +1,12 @@
 // Syndromes: the residue of a slip's row less the target, at the roots of the generator polynomial. They depend on the
 // row's changes alone.
 ghost use Rattle.std.specs.Prelude.{◌≡◌, ◌+◌, ◌<◌, map, length};
-ghost use Rattle.algebra.specs.Code.{bound, residue};
+ghost use Rattle.algebra.specs.Code.{bound, checks};
 ghost use Rattle.algebra.specs.Field.{pow};
 ghost use Rattle.algebra.specs.Poly.{eval, poly_sub, tab};
 ghost use Rattle.algebra.specs.Rows.{syndrome};
 ghost use Rattle.book.specs.Book.{row};
-ghost use Rattle.checksum.specs.Engine.{padded};
 ghost use Rattle.slip.specs.Sealing.{elements};
-ghost use Rattle.slip.specs.View.{view};
 
 use checksum::checksum::Checksum;
 use field::arithmetic::difference;
@@ -29,30 +27,30 @@ fn values_at_powers<E: ExtensionField>(list: &[E::BaseField], a: E, first: usize
     }
 }
 
-// The coefficients of a slip's residue less the target's, with ZEROs past them.
+// Takes the target's coefficients off a residue's.
+fn subtract_target<C: Checksum>(residue: &mut [C::SymbolField])
+    requires { length residue.old ≡ checks C.Checksum.code }
+    ensures { residue.new ≡ poly_sub C.SymbolField.Field.field residue.old C.Checksum.code.target }
+{
+    C::laws();
+    for (power, coefficient) in residue.iter_mut().enumerate() {
+        *coefficient = difference(*coefficient, C::target_residue(power));
+    }
+}
+
+// The syndromes of a slip's row, as many as the bound.
 #[tactic(auto, using(checksum::proofs::Sizes::engine_fits))]
-fn residue_error<C: Checksum>(slip: &Slip) -> [C::SymbolField; 16]
-    ensures { result ≡ padded C.SymbolField.Field.field (poly_sub C.SymbolField.Field.field (residue C.SymbolField.Field.field C.Checksum.code (elements C.SymbolField.Field.numbers (row (view slip.now)))) C.Checksum.code.target) }
+pub(crate) fn syndromes<C: Checksum>(slip: &Slip, out: &mut [C::CorrectionField])
+    requires { length out.old ≡ bound C.Checksum.code }
+    ensures { out.new ≡ tab (bound C.Checksum.code) (syndrome C.SymbolField.Field.field C.CorrectionField.Field.field C.CorrectionField.ExtensionField.lifted C.Checksum.code (elements C.SymbolField.Field.numbers (row slip.now))) }
 {
     C::laws();
     C::SymbolField::small();
     let engine = slip.engine::<C>();
     let mut error = [C::SymbolField::zero(); 16];
-    for (power, coefficient) in engine.residue().iter().enumerate() {
-        error[power] = difference(*coefficient, C::target_residue(power));
-    }
-    error
-}
-
-// The syndromes of a slip's row, as many as the bound.
-pub(crate) fn syndromes<C: Checksum>(slip: &Slip, out: &mut [C::CorrectionField])
-    requires { length out.old ≡ bound C.Checksum.code }
-    ensures { out.new ≡ tab (bound C.Checksum.code) (syndrome C.SymbolField.Field.field C.CorrectionField.Field.field C.CorrectionField.ExtensionField.lifted C.Checksum.code (elements C.SymbolField.Field.numbers (row (view slip.now)))) }
-{
-    C::laws();
-    C::SymbolField::small();
-    let error = residue_error::<C>(slip);
-    let error = &error[..];
+    let error = &mut error[..C::checksum_length()];
+    error.copy_from_slice(engine.residue());
+    subtract_target::<C>(error);
     let (first, _) = C::root_exponents();
-    values_at_powers(&error[..C::checksum_length()], C::root_generator(), first, out);
+    values_at_powers(error, C::root_generator(), first, out);
 }

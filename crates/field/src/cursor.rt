@@ -1,12 +1,13 @@
 // Cursors over the powers of an element: each answers one power after another, and can skip some.
 ghost use Rattle.std.specs.Prelude.{◌≡◌, ℕ, suc, ◌+◌, drop};
+ghost use Rattle.std.specs.Iterator.{YieldsFirst, item_count};
 ghost use Rattle.std.specs.List.{slice_get as item};
 ghost use Rattle.field.specs.Cursors.{ahead, coming};
 
 use crate::field::Field;
 use crate::powers::by_squaring;
 
-/// All powers of an element, from some exponent on.
+/// All powers of an element, from some exponent on. They never end, so each call answers one, where an iterator might not.
 #[derive(Drop)]
 pub struct Powers<F> {
     pub(crate) base: F,
@@ -49,18 +50,23 @@ pub struct PowersRange<F> {
     pub(crate) after: Option<usize>,
 }
 
-impl<F: Field> PowersRange<F> {
-    /// The next power, none past the last.
-    pub fn next(&mut self) -> Option<F>
-        ensures answer { result ≡ item (coming F.field self.old) 0 }
-        ensures rest { coming F.field self.new ≡ drop 1 (coming F.field self.old) }
-    {
+impl<F: Field> Iterator for PowersRange<F> {
+    type Item = F;
+
+    ghost next_gives = { YieldsFirst (coming F.field) };
+
+    ghost remaining = { item_count (coming F.field) };
+
+    fn next(&mut self) -> Option<F> {
         let after = self.after?;
         self.after = after.checked_sub(1);
         Some(self.powers.next())
     }
+}
 
-    /// The power after n others, which are skipped; none past the last.
+impl<F: Field> PowersRange<F> {
+    /// The power after n others, which are skipped; none past the last. Unlike an iterator's own `nth`, it takes no step
+    /// for each of them.
     pub fn nth(&mut self, n: usize) -> Option<F>
         ensures answer { result ≡ item (coming F.field self.old) n }
         ensures rest { coming F.field self.new ≡ drop (n + 1) (coming F.field self.old) }

@@ -31,11 +31,12 @@ pub enum FieldFault {
     Exponent,
 }
 
-impl FieldFault {
-    pub fn refusal(&self) -> Refusal
-        ensures { result ≡ told self.now }
-    {
-        match self {
+/// What the field's refusal tells.
+impl From<FieldFault> for Refusal {
+    ghost from_gives = { λ fault r. r ≡ told fault };
+
+    fn from(fault: FieldFault) -> Refusal {
+        match fault {
             FieldFault::Zero => Refusal {
                 number: 12,
                 layer: Layer::Field,

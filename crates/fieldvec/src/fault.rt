@@ -24,11 +24,12 @@ impl From<FieldFault> for ListFault {
     }
 }
 
-impl ListFault {
-    pub fn refusal(&self) -> Refusal
-        ensures { result ≡ told self.now }
-    {
-        match *self {
+/// What the list's refusal tells: a field's keeps its number.
+impl From<ListFault> for Refusal {
+    ghost from_gives = { λ fault r. r ≡ told fault };
+
+    fn from(fault: ListFault) -> Refusal {
+        match fault {
             ListFault::Empty => Refusal {
                 number: 10,
                 layer: Layer::List,
@@ -40,7 +41,7 @@ impl ListFault {
                 place: 0,
             },
             ListFault::Field(fault) => Refusal {
-                number: fault.refusal().number,
+                number: Refusal::from(fault).number,
                 layer: Layer::List,
                 place: 0,
             },

@@ -1,10 +1,9 @@
 // A typed line, and its output line.
-ghost use Rattle.std.specs.Prelude.{◌≡◌, map, slice_index_or};
+ghost use Rattle.std.specs.Prelude.{◌≡◌, slice_index_or};
 ghost use Rattle.book.specs.Book.{fresh};
 ghost use Rattle.book.specs.Calls.{Follows, settle};
 ghost use Rattle.hut_lines.specs.Shown.{OneWay, OnlySays, Shown, finish_rows, shown};
 ghost use Rattle.script.specs.Script.{heard};
-ghost use Rattle.slip.specs.View.{view};
 
 use crate::reading::Reading;
 use codes::finish::Finish;
@@ -78,7 +77,7 @@ fn finish(line: &[u8]) -> Result<Reading, Refusal>
 
 // Settles the only slip by the finish code: a script of one turn.
 fn settle(slips: &mut [Slip; 1]) -> Reply
-    ensures follows { Follows (slice_index_or (map view slips.old) 0 fresh) (settle finish_rows 16 216) (heard result) (slice_index_or (map view slips.new) 0 fresh) }
+    ensures follows { Follows (slice_index_or slips.old 0 fresh) (settle finish_rows 16 216) (heard result) (slice_index_or slips.new 0 fresh) }
     ensures decided { OneWay finish_rows }
 {
     let code = One::<Finish> { code: PhantomData };

@@ -8,10 +8,8 @@ use Rattle.book.specs.Codes.{Rows}
 use Rattle.book.specs.Mending.{subtracted}
 use Rattle.book.specs.declared.record.Record.{Record}
 use Rattle.book.proofs.Fitting.{row_length}
-use Rattle.slip.specs.View.{view}
-use Rattle.slip.specs.declared.slip.Slip.{Slip}
+use Rattle.slip.specs.View.{Holdable}
 use Rattle.slip.proofs.Calls.{write_held}
-use Rattle.slip.proofs.Places.{length_view}
 use Rattle.mending.specs.Lessened.{lessened, less_row}
 use Rattle.mending.proofs.Checking.{blank}
 
@@ -80,5 +78,5 @@ module _ (less : ℕ → ℕ → ℕ) (rs : List Record) (us vs : List ℕ) (sam
       sym (append-nil b) ∙ sym (at_drop_all (λ ws. b ++ map sure (less_row less i rs ws)) vs i (omega arith)) ∙ inv
 
 -- a slip's row is no longer than there is room for
-pub row_room : (s : Slip) → length (row (view s)) ≤ 89
-row_room s = let l = length_view s in let r = row_length (view s) in omega (arith, l, r, s.room)
+pub row_room : (b : Book) → Holdable b → length (row b) ≤ 89
+row_room b h = let r = row_length b in omega (arith, r, h.room)

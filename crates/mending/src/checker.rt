@@ -4,7 +4,6 @@ ghost use Rattle.algebra.specs.Series.{Mem};
 ghost use Rattle.book.specs.Codes.{rows_of};
 ghost use Rattle.book.specs.Mending.{places, elsewhere, Fits};
 ghost use Rattle.mending.specs.Checked.{Admits, Sensible, Covers, Formed};
-ghost use Rattle.slip.specs.View.{view};
 
 use crate::subtracting::{mended, number};
 use book::record::Record;
@@ -14,7 +13,7 @@ use slip::slip::Slip;
 
 /// Whether records are a pattern that fits the slip by a code.
 pub fn fits<C: Checksum>(slip: &Slip, records: &[Record]) -> bool
-    ensures { Decides result (Fits (rows_of C.SymbolField.Field.numbers C.SymbolField.Field.field C.Checksum.code) (view slip.now) records.now) }
+    ensures { Decides result (Fits (rows_of C.SymbolField.Field.numbers C.SymbolField.Field.field C.Checksum.code) slip.now records.now) }
 {
     C::laws();
     C::SymbolField::small();
@@ -29,7 +28,7 @@ pub fn fits<C: Checksum>(slip: &Slip, records: &[Record]) -> bool
 
 // Whether the records are a pattern within the bound, whatever row they lead to.
 fn formed(slip: &Slip, records: &[Record], nothing: u8, bound: usize) -> bool
-    ensures { Decides result (Formed (view slip.now) nothing bound records.now) }
+    ensures { Decides result (Formed slip.now nothing bound records.now) }
 {
     let doubts = slip.doubts();
     if doubts > bound {
@@ -46,7 +45,7 @@ fn formed(slip: &Slip, records: &[Record], nothing: u8, bound: usize) -> bool
 
 // Whether each record can be part of a pattern, and no place is named twice.
 fn sensible(slip: &Slip, records: &[Record], nothing: u8) -> bool
-    ensures { Decides result (Sensible (view slip.now) nothing records.now) }
+    ensures { Decides result (Sensible slip.now nothing records.now) }
 {
     for i in 0..records.len() {
         if !admits(slip, records[i], nothing) {
@@ -61,7 +60,7 @@ fn sensible(slip: &Slip, records: &[Record], nothing: u8) -> bool
 
 // Whether a record names a place of the slip and a symbol, and changes something unless the place is doubted.
 fn admits(slip: &Slip, record: Record, nothing: u8) -> bool
-    ensures { Decides result (Admits (view slip.now) nothing «record») }
+    ensures { Decides result (Admits slip.now nothing «record») }
 {
     if record.place >= slip.len() {
         return false;
@@ -77,7 +76,7 @@ fn admits(slip: &Slip, record: Record, nothing: u8) -> bool
 
 // Whether each doubted place is named.
 fn covers(slip: &Slip, records: &[Record]) -> bool
-    ensures { Decides result (Covers (view slip.now) records.now) }
+    ensures { Decides result (Covers slip.now records.now) }
 {
     for place in 0..slip.len() {
         if slip.is_doubted(place) {
@@ -91,7 +90,7 @@ fn covers(slip: &Slip, records: &[Record]) -> bool
 
 // How many records name undoubted places.
 fn elsewhere(slip: &Slip, records: &[Record]) -> usize
-    ensures { result ≡ elsewhere (view slip.now) records.now }
+    ensures { result ≡ elsewhere slip.now records.now }
 {
     let mut n = 0;
     for record in records {

@@ -6,7 +6,7 @@ ghost use Rattle.book.specs.Mending.{nonzero};
 ghost use Rattle.book.specs.Book.{doubts};
 ghost use Rattle.mending.specs.Answers.{told_list, written, cleared};
 ghost use Rattle.mending.specs.Found.{Found, first_fault};
-ghost use Rattle.slip.specs.View.{view};
+ghost use Rattle.slip.specs.View.{Holdable};
 
 use crate::checker::fits;
 use crate::subtracting::{mended, number};
@@ -25,7 +25,7 @@ pub fn solve<C: Checksum>(
     records: &mut [Record],
     work: &mut [C::CorrectionField],
 ) -> Result<(usize, usize), CodeFault>
-    ensures follows { Follows (view slip.now) (solve (rows_of C.SymbolField.Field.numbers C.SymbolField.Field.field C.Checksum.code) (length records.old) (length work.old)) (told_list result records.new) (view slip.now) }
+    ensures follows { Follows slip.now (solve (rows_of C.SymbolField.Field.numbers C.SymbolField.Field.field C.Checksum.code) (length records.old) (length work.old)) (told_list result records.new) slip.now }
     ensures past { drop (written result) records.new ≡ drop (written result) records.old }
     ensures working { work.new ≡ cleared C.CorrectionField.Field.field result work.old }
 {
@@ -42,7 +42,7 @@ pub fn settle<C: Checksum>(
     records: &mut [Record],
     work: &mut [C::CorrectionField],
 ) -> Result<(usize, usize), CodeFault>
-    ensures follows { Follows (view slip.old) (settle (rows_of C.SymbolField.Field.numbers C.SymbolField.Field.field C.Checksum.code) (length records.old) (length work.old)) (told_list result records.new) (view slip.new) }
+    ensures follows { Follows slip.old (settle (rows_of C.SymbolField.Field.numbers C.SymbolField.Field.field C.Checksum.code) (length records.old) (length work.old)) (told_list result records.new) slip.new }
     ensures past { drop (written result) records.new ≡ drop (written result) records.old }
     ensures working { work.new ≡ cleared C.CorrectionField.Field.field result work.old }
 {
@@ -63,7 +63,7 @@ fn find<C: Checksum>(
     records: usize,
     work: &mut [C::CorrectionField],
 ) -> Result<Pattern, CodeFault>
-    ensures found { Found (rows_of C.SymbolField.Field.numbers C.SymbolField.Field.field C.Checksum.code) records (length work.old) (view slip.now) result }
+    ensures found { Found (rows_of C.SymbolField.Field.numbers C.SymbolField.Field.field C.Checksum.code) records (length work.old) slip.now result }
     ensures working { work.new ≡ cleared C.CorrectionField.Field.field result work.old }
 {
     C::laws();
@@ -100,7 +100,8 @@ fn first_fault(
     bound: usize,
 ) -> Option<CodeFault>
     requires { bound ≤ 16 }
-    ensures { result ≡ first_fault (length (view slip.now)) (doubts (view slip.now)) records work checks limit bound }
+    ensures fault { result ≡ first_fault (length slip.now) (doubts slip.now) records work checks limit bound }
+    ensures holdable { Holdable slip.now }
 {
     if slip.len() <= checks {
         return Some(CodeFault::Short);

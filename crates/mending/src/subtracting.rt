@@ -3,7 +3,7 @@ ghost use Rattle.std.specs.Prelude.{◌≡◌, ◌<◌, map};
 ghost use Rattle.algebra.specs.Series.{All};
 ghost use Rattle.book.specs.Book.{row, sure};
 ghost use Rattle.mending.specs.Lessened.{less, lessened, less_row};
-ghost use Rattle.slip.specs.View.{view};
+ghost use Rattle.slip.specs.View.{Holdable};
 
 use book::record::Record;
 use field::arithmetic::difference;
@@ -14,7 +14,8 @@ use slip::slip::Slip;
 pub(crate) fn mended<F: Field>(slip: &Slip, records: &[Record]) -> Slip
     requires size { F.Field.numbers.size ≡ 32 }
     requires symbols { All (λ c. c.change < 32) records.now }
-    ensures { view result ≡ map sure (less_row (less F.Field.numbers F.Field.field) 0 records.now (row (view slip.now))) }
+    ensures mended { result ≡ map sure (less_row (less F.Field.numbers F.Field.field) 0 records.now (row slip.now)) }
+    ensures holdable { Holdable slip.now }
 {
     let mut mended = Slip::new();
     for (place, symbol) in slip.symbols().iter().enumerate() {

@@ -12,6 +12,7 @@ use book::record::Record;
 use checksum::checksum::Checksum;
 use codes::bech32::Bech32;
 use codes::finish::Finish;
+use field::fault::Refusal;
 use field::field::Field;
 use mending::mending::{settle, solve};
 use replay::lines::{Answers, replay};
@@ -67,7 +68,7 @@ fn listed(
             Ok(text)
         }
         Err(fault) => {
-            let number = fault.refusal().number;
+            let number = Refusal::from(fault).number;
             Ok(format!(in heap; "refusal {number}")?)
         }
     }

@@ -9,7 +9,7 @@
 
 use anyhow::anyhow;
 use field::arithmetic::{difference, muli, quotient};
-use field::fault::FieldFault;
+use field::fault::{FieldFault, Refusal};
 use field::field::{ExtensionField, Field};
 use field::powers::{multiplicative_order, powi};
 use gf32::gf32::Fe32;
@@ -20,7 +20,7 @@ use replay::lines::{Answers, replay};
 use std::alloc::Global;
 
 fn write_refusal(heap: Global, fault: FieldFault) -> anyhow::Result<String> {
-    let number = fault.refusal().number;
+    let number = Refusal::from(fault).number;
     Ok(format!(in heap; "refusal {number}")?)
 }
 

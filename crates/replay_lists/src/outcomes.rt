@@ -1,12 +1,13 @@
 // Outcomes of the list functions, as recorded answers have them. A refusal is written by its number.
 use anyhow::anyhow;
+use field::fault::Refusal;
 use field::field::Field;
 use fieldvec::fault::ListFault;
 use replay::elements::{write_element, write_elements};
 use std::alloc::Global;
 
 pub fn write_refusal(heap: Global, fault: ListFault) -> anyhow::Result<String> {
-    let number = fault.refusal().number;
+    let number = Refusal::from(fault).number;
     Ok(format!(in heap; "refusal {number}")?)
 }
 

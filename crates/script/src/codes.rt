@@ -6,7 +6,6 @@ ghost use Rattle.book.specs.CodeFaults.{told};
 ghost use Rattle.book.specs.Codes.{Rows, Lawful, rows_of};
 ghost use Rattle.mending.specs.Answers.{told_list};
 ghost use Rattle.script.specs.Sets.{either_rows};
-ghost use Rattle.slip.specs.View.{view};
 
 use crate::members::{Desk, Desks, Either, One};
 use book::code_fault::CodeFault;
@@ -37,7 +36,7 @@ pub trait CodeSet: Copy {
 
     /// Seals a slip by the code.
     fn seal(self, slip: &mut Slip) -> Result<(), CodeFault>
-        ensures { Follows (view slip.old) (seal (rows self)) (said told result) (view slip.new) };
+        ensures { Follows slip.old (seal (rows self)) (said told result) slip.new };
 
     /// Lists how the row of a slip becomes the row near it, by the code, w elements of the desk being lent to work in.
     fn solve(
@@ -47,7 +46,7 @@ pub trait CodeSet: Copy {
         w: usize,
         desk: &mut Self::Desk,
     ) -> Result<(usize, usize), CodeFault>
-        ensures { Follows (view slip.now) (solve (rows self) (length records.old) w) (told_list result records.new) (view slip.now) };
+        ensures { Follows slip.now (solve (rows self) (length records.old) w) (told_list result records.new) slip.now };
 
     /// The same, and the slip then holds that row, nothing doubted.
     fn settle(
@@ -57,7 +56,7 @@ pub trait CodeSet: Copy {
         w: usize,
         desk: &mut Self::Desk,
     ) -> Result<(usize, usize), CodeFault>
-        ensures { Follows (view slip.old) (settle (rows self) (length records.old) w) (told_list result records.new) (view slip.new) };
+        ensures { Follows slip.old (settle (rows self) (length records.old) w) (told_list result records.new) slip.new };
 }
 
 impl<C: Checksum> CodeSet for One<C> {

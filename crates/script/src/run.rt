@@ -1,12 +1,11 @@
 // Running a script.
-ghost use Rattle.std.specs.Prelude.{◌≡◌, map, length};
+ghost use Rattle.std.specs.Prelude.{◌≡◌, length};
 ghost use Rattle.book.specs.Calls.{Follows, said, solve, settle};
 ghost use Rattle.book.specs.CodeFaults.{told as code-told};
 ghost use Rattle.book.specs.Promise.{Promise};
 ghost use Rattle.book.specs.SlipFaults.{told as slip-told};
 ghost use Rattle.mending.specs.Answers.{told_list};
 ghost use Rattle.script.specs.Script.{asked, heard, Few, Stories, FreshStories, Decided, Untouched};
-ghost use Rattle.slip.specs.View.{view};
 
 use crate::codes::CodeSet;
 use crate::listing::Listing;
@@ -14,6 +13,7 @@ use crate::script::{Ask, Reply, Turn};
 use book::code_fault::CodeFault;
 use book::record::Record;
 use book::slip_fault::SlipFault;
+use field::fault::Refusal;
 use slip::slip::Slip;
 
 /// Runs a script: makes the turns' calls one after another, each on the slip that its turn names, and puts each answer
@@ -30,8 +30,8 @@ pub fn run<K: CodeSet>(
     replies: &mut [Reply],
     desk: &mut K::Desk,
 )
-    ensures stories { Stories K.CodeSet.rows (map view slips.old) turns.now replies.new (map view slips.new) }
-    ensures fresh { FreshStories K.CodeSet.rows (map view slips.old) turns.now replies.new (map view slips.new) }
+    ensures stories { Stories K.CodeSet.rows slips.old turns.now replies.new slips.new }
+    ensures fresh { FreshStories K.CodeSet.rows slips.old turns.now replies.new slips.new }
     ensures decided { Decided K.CodeSet.rows }
     ensures promise { (k : K) → Promise (K.CodeSet.rows k) }
     ensures untouched { Untouched (length slips.old) turns.now replies.old replies.new }
@@ -49,7 +49,7 @@ pub fn run<K: CodeSet>(
 
 // Makes one call on a slip.
 fn answer<K: CodeSet>(slip: &mut Slip, ask: Ask<K>, desk: &mut K::Desk) -> Reply
-    ensures { Follows (view slip.old) (asked K.CodeSet.rows ask) (heard result) (view slip.new) }
+    ensures { Follows slip.old (asked K.CodeSet.rows ask) (heard result) slip.new }
 {
     match ask {
         Ask::Write(v) => slip_reply(slip.write(v)),
@@ -67,7 +67,7 @@ fn answer<K: CodeSet>(slip: &mut Slip, ask: Ask<K>, desk: &mut K::Desk) -> Reply
 
 // A solve that is lent r records: no code lists more than sixteen.
 fn solve_turn<K: CodeSet>(slip: &Slip, code: K, r: usize, w: usize, desk: &mut K::Desk) -> Reply
-    ensures { Follows (view slip.now) (solve (K.CodeSet.rows code) r w) (heard result) (view slip.now) }
+    ensures { Follows slip.now (solve (K.CodeSet.rows code) r w) (heard result) slip.now }
 {
     K::laws();
     let mut records = [Record {
@@ -86,7 +86,7 @@ fn settle_turn<K: CodeSet>(
     w: usize,
     desk: &mut K::Desk,
 ) -> Reply
-    ensures { Follows (view slip.old) (settle (K.CodeSet.rows code) r w) (heard result) (view slip.new) }
+    ensures { Follows slip.old (settle (K.CodeSet.rows code) r w) (heard result) slip.new }
 {
     K::laws();
     let mut records = [Record {
@@ -103,7 +103,7 @@ fn slip_reply(answer: Result<(), SlipFault>) -> Reply
 {
     match answer {
         Ok(()) => Reply::Done,
-        Err(fault) => Reply::Refused(fault.refusal()),
+        Err(fault) => Reply::Refused(Refusal::from(fault)),
     }
 }
 
@@ -112,7 +112,7 @@ fn code_reply(answer: Result<(), CodeFault>) -> Reply
 {
     match answer {
         Ok(()) => Reply::Done,
-        Err(fault) => Reply::Refused(fault.refusal()),
+        Err(fault) => Reply::Refused(Refusal::from(fault)),
     }
 }
 
@@ -122,6 +122,6 @@ fn list_reply(answer: Result<(usize, usize), CodeFault>, records: [Record; 16]) 
 {
     match answer {
         Ok((written, nonzero)) => Reply::Listed(Listing::new(records, written, nonzero)),
-        Err(fault) => Reply::Refused(fault.refusal()),
+        Err(fault) => Reply::Refused(Refusal::from(fault)),
     }
 }

@@ -3,6 +3,7 @@
 // refusal and the byte where it lies.
 #![tactic(auto)]
 
+use field::fault::Refusal;
 use sheet::sealed::seal_line;
 use std::io;
 use std::io::{Read, Write};
@@ -17,7 +18,7 @@ fn write_sealed(out: &mut impl Write, line: &[u8]) -> io::Result<()> {
             out.write_all(b"\n")
         }
         Err(fault) => {
-            let refusal = fault.refusal();
+            let refusal = Refusal::from(fault);
             let number = refusal.number;
             let place = refusal.place;
             writeln!(out, "{number} {place}")

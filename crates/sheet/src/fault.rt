@@ -20,13 +20,14 @@ pub enum LineFault {
     LateTime,
 }
 
-impl LineFault {
-    pub fn refusal(&self) -> Refusal
-        ensures { result ≡ told self.now }
-    {
-        match *self {
+/// What the line's refusal tells: the slip's keeps its number, and the line adds the byte.
+impl From<LineFault> for Refusal {
+    ghost from_gives = { λ fault r. r ≡ told fault };
+
+    fn from(fault: LineFault) -> Refusal {
+        match fault {
             LineFault::OnSlip(fault, place) => Refusal {
-                number: fault.refusal().number,
+                number: Refusal::from(fault).number,
                 layer: Layer::Line,
                 place,
             },
@@ -51,13 +52,5 @@ impl LineFault {
                 place: 0,
             },
         }
-    }
-}
-
-impl From<LineFault> for Refusal {
-    ghost from_gives = { λ fault r. r ≡ told fault };
-
-    fn from(fault: LineFault) -> Refusal {
-        fault.refusal()
     }
 }

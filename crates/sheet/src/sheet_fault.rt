@@ -14,13 +14,14 @@ pub enum Cause {
     Code(CodeFault),
 }
 
-impl Cause {
-    pub fn refusal(&self) -> Refusal
-        ensures { result ≡ told_cause self.now }
-    {
-        match *self {
-            Cause::Line(fault) => fault.refusal(),
-            Cause::Code(fault) => fault.refusal(),
+/// What the cause's refusal tells.
+impl From<Cause> for Refusal {
+    ghost from_gives = { λ cause r. r ≡ told_cause cause };
+
+    fn from(cause: Cause) -> Refusal {
+        match cause {
+            Cause::Line(fault) => Refusal::from(fault),
+            Cause::Code(fault) => Refusal::from(fault),
         }
     }
 }
@@ -48,15 +49,14 @@ pub struct SheetFault {
     pub cause: Cause,
 }
 
-impl SheetFault {
-    pub fn refusal(&self) -> Refusal
-        ensures { result ≡ told self.now }
-    {
-        let cause = self.cause.refusal();
+/// What the sheet's refusal tells: the cause keeps its number and its place.
+impl From<SheetFault> for Refusal {
+    ghost from_gives = { λ fault r. r ≡ told fault };
+
+    fn from(fault: SheetFault) -> Refusal {
         Refusal {
-            number: cause.number,
             layer: Layer::Sheet,
-            place: cause.place,
+            ..Refusal::from(fault.cause)
         }
     }
 }

@@ -6,7 +6,6 @@ ghost use Rattle.sheet.specs.Taking.{at_byte, before_slash, is_other, line_case,
 ghost use Rattle.book.specs.Book.{after, answer, fresh};
 ghost use Rattle.book.specs.Calls.{done, wipe};
 ghost use Rattle.book.specs.Story.{Leads};
-ghost use Rattle.slip.specs.View.{view};
 
 use crate::characters::{Case, Character, letter_case, read_character};
 use crate::fault::LineFault;
@@ -17,10 +16,10 @@ use slip::slip::Slip;
 /// first bad byte refuses the line and leaves the slip empty.
 pub fn take_line(slip: &mut Slip, line: &[u8]) -> Result<(), LineFault>
     ensures answer { result ≡ answer (take_line true line.now) }
-    ensures book { view slip.new ≡ after fresh (take_line true line.now) }
-    ensures calls { result ≡ Ok tt → made_all (calls_of line.now) (view slip.old) ≡ Ok (view slip.new) }
-    ensures leads { result ≡ Ok tt → Leads (view slip.old) (all_done (calls_of line.now)) (view slip.new) }
-    ensures wiped { (fault : LineFault) → result ≡ Err fault → Leads (view slip.old) ((wipe, done) ∷ []) (view slip.new) }
+    ensures book { slip.new ≡ after fresh (take_line true line.now) }
+    ensures calls { result ≡ Ok tt → made_all (calls_of line.now) slip.old ≡ Ok slip.new }
+    ensures leads { result ≡ Ok tt → Leads slip.old (all_done (calls_of line.now)) slip.new }
+    ensures wiped { (fault : LineFault) → result ≡ Err fault → Leads slip.old ((wipe, done) ∷ []) slip.new }
 {
     take(slip, line, true)
 }
@@ -28,14 +27,14 @@ pub fn take_line(slip: &mut Slip, line: &[u8]) -> Result<(), LineFault>
 /// Takes a line in which nothing is unknown: a question mark is refused as a byte outside the set.
 pub fn take_known_line(slip: &mut Slip, line: &[u8]) -> Result<(), LineFault>
     ensures answer { result ≡ answer (take_line false line.now) }
-    ensures book { view slip.new ≡ after fresh (take_line false line.now) }
+    ensures book { slip.new ≡ after fresh (take_line false line.now) }
 {
     take(slip, line, false)
 }
 
 fn take(slip: &mut Slip, line: &[u8], blanks: bool) -> Result<(), LineFault>
     ensures answer { result ≡ answer (take_line blanks line.now) }
-    ensures book { view slip.new ≡ after fresh (take_line blanks line.now) }
+    ensures book { slip.new ≡ after fresh (take_line blanks line.now) }
 {
     slip.wipe();
     let groups = before_slash(line);
@@ -74,7 +73,7 @@ pub(crate) fn line_case(line: &[u8]) -> Case
 }
 
 fn take_groups(slip: &mut Slip, groups: &[u8], case: Case, blanks: bool) -> Result<(), LineFault>
-    ensures { outcome result (view slip.new) ≡ taken_all blanks case 0 groups.now (view slip.old) }
+    ensures { outcome result slip.new ≡ taken_all blanks case 0 groups.now slip.old }
 {
     for (place, byte) in groups.iter().enumerate() {
         take_byte(slip, *byte, place, case, blanks)?;
@@ -90,7 +89,7 @@ fn take_byte(
     case: Case,
     blanks: bool,
 ) -> Result<(), LineFault>
-    ensures { outcome result (view slip.new) ≡ taken blanks case place byte (view slip.old) }
+    ensures { outcome result slip.new ≡ taken blanks case place byte slip.old }
 {
     if byte == b' ' {
         return Ok(());

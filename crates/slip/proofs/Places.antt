@@ -2,8 +2,8 @@
 use Rattle.std.proofs.Common.{◌≡◌, ℕ, zero, suc, ◌+◌, ◌<◌, ◌≤◌, Bool, true, false, List, [], ◌∷◌, ◌++◌, length, get_or, take, set, replicate, Some, None, sym, refl, ap, ◌∙◌, arith}
 use Rattle.std.proofs.lemmas.List.{take_more_set, length-take-le}
 use Rattle.book.specs.Book.{Book, mark, row, marks, symbol_at, doubted_at}
-use Rattle.slip.specs.View.{at, places, view}
-use Rattle.slip.specs.declared.slip.Slip.{Slip}
+use Rattle.slip.specs.View.{at, places, book_of, Filled}
+use Rattle.slip.specs.declared.slip.Slip.TheInside.{Inside}
 
 length_places : (vs : List ℕ) (ds : List Bool) → length vs ≡ length ds → length (places vs ds) ≡ length vs
 length_places [] ds e = refl
@@ -60,10 +60,10 @@ doubted_at_past [] i h = refl
 doubted_at_past (p ∷ b) zero h = absurd (omega arith)
 doubted_at_past (p ∷ b) (suc i) h = doubted_at_past b i (omega arith)
 
-pub length_view : (s : Slip) → length (view s) ≡ s.len
-length_view s =
-    let full = length_places s.symbols s.doubted (s.all_symbols ∙ sym s.all_marks) in
-    length-take-le s.len (places s.symbols s.doubted) (omega (arith, s.all_symbols, s.room))
+pub length_book : (s : Inside) → Filled s → length (book_of s) ≡ s.len
+length_book s h =
+    let full = length_places s.symbols s.doubted (h.all_symbols ∙ sym h.all_marks) in
+    length-take-le s.len (places s.symbols s.doubted) (omega (arith, h.all_symbols, h.room))
 
 pub places_push : (vs : List ℕ) (ds : List Bool) (n v : ℕ) (d : Bool) → length vs ≡ length ds → n < length vs
     → take (n + 1) (places (set vs n v) (set ds n d)) ≡ take n (places vs ds) ++ at v d ∷ []

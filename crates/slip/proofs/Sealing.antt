@@ -1,12 +1,11 @@
 -- What a seal makes of a book. Assumes nothing.
-use Rattle.std.proofs.Common.{◌≡◌, ℕ, ◌+◌, ◌-◌, ◌<◌, ◌≤◌, false, List, [], ◌∷◌, ◌++◌, map, length, get_or, take, drop, replicate, Ok, Err, sym, refl, ap, ◌∙◌, subst, ap₂, arith}
-use Rattle.std.proofs.lemmas.List.{append_assoc, append-nil, at_drop_more, at_drop_all, map-append, take_at}
+use Rattle.std.proofs.Common.{◌≡◌, ℕ, ◌+◌, ◌<◌, ◌≤◌, false, List, [], ◌∷◌, ◌++◌, map, length, get_or, drop, Ok, Err, sym, refl, ap, ◌∙◌, subst, ap₂, arith}
+use Rattle.std.proofs.lemmas.List.{append_assoc, append-nil, at_drop_more, at_drop_all, map-append}
 use Rattle.std.proofs.lemmas.Bool.{ne_eqb, le-ltb, lt-ltb}
 use Rattle.algebra.specs.Code as code
-use Rattle.algebra.specs.Code.{Code, checks, closing, residue, Sound}
+use Rattle.algebra.specs.Code.{Code, checks, Sound}
 use Rattle.algebra.specs.Field.{FieldOn, Numbers}
-use Rattle.algebra.proofs.Sealing.{length_seal, sealed_sound}
-use Rattle.checksum.specs.Engine.{padded}
+use Rattle.algebra.proofs.Sealing.{sealed_sound}
 use Rattle.book.specs.Book.{Book, row, sure}
 use Rattle.slip.specs.Sealing.{elements, check_symbols, seal}
 use Rattle.slip.specs.View.{at}
@@ -40,16 +39,6 @@ module _ {S : Type 0} (N : Numbers S) where
 
   module _ {E : Type 0} (F : FieldOn S) (C : Code S E) where
     module _ (target_length : length C.target ≡ checks C) where
-      -- the first k of the engine's sixteen are the seal
-      pub front_seal : (numbers symbols : List ℕ) (r sixteen : List S) (k : ℕ) → k ≡ checks C → numbers ≡ symbols → r ≡ residue F C (elements N numbers)
-          → sixteen ≡ padded F (closing F C r) → map N.number (take (k - 0) sixteen) ≡ check_symbols N F C symbols
-      front_seal numbers symbols r sixteen k is-k same is-r is-sixteen =
-          let cs = code.seal F C (elements N numbers) in
-          let l = length_seal F C target_length (elements N numbers) in
-          ap (λ (xs : List S). map N.number (take (k - 0) xs)) (is-sixteen ∙ ap (λ (s : List S). padded F (closing F C s)) is-r)
-          ∙ ap (map N.number) (take_at cs (replicate (16 - length cs) F.𝟘) (k - 0) (omega arith))
-          ∙ ap (check_symbols N F C) same
-
       pub sealed_book_sound : (b : Book) → Sound F C (elements N (row (b ++ map sure (check_symbols N F C (row b)))))
       sealed_book_sound b =
           let cs = code.seal F C (elements N (row b)) in

@@ -1,11 +1,11 @@
-use Rattle.std.proofs.Common.{true, ap, ◌∙◌}
+use Rattle.std.proofs.Common.{true, ap, ◌∙◌, rules}
+use Rattle.std.proofs.lemmas.List.{get_or_default}
 use Rattle.std.proofs.lemmas.Result.{err_from_is_err_and}
-use Rattle.book.specs.Book.{row}
-use Rattle.slip.specs.View.{view}
+use Rattle.book.specs.Book.{fresh, row}
 use Rattle.sheet.specs.Taking.{take_line}
 use Rattle.sheet.proofs.BytesTaken.{accepted, refused}
 use Rattle.hut_lines.specs.Shown.{finish_rows, not_mended}
-use Rattle.hut_lines.proofs.Saying.{only, only_read, only_refused, only_slip, only_unread, settle_refused, settle_not_done}
+use Rattle.hut_lines.proofs.Saying.{only, only_read, only_refused, only_unread, settle_refused, settle_not_done}
 use Rattle.hut_lines.proofs.lines.finish.Goals as goal
 
 pub returns-in_err-take_line : goal.returns-in_err-take_line
@@ -17,7 +17,7 @@ returns-in_err-take_line c =
 pub returns-in-Refused : goal.returns-in-Refused
 returns-in-Refused c =
     let line = c.args.line.now in
-    let b = view c.take_line.new.slip in
+    let b = c.take_line.new.slip in
     let told = c.in_ok-take_line.ensures in
     let taken = accepted (take_line true line) b told.answer told.book in
     let settled = c.in-Refused.ensures in
@@ -29,21 +29,21 @@ unreachable-requires c = settle_not_done c.in-Done.ensures.follows
 pub returns-in_err-sail : goal.returns-in_err-sail
 returns-in_err-sail c =
     let line = c.args.line.now in
-    let b = view c.take_line.new.slip in
+    let b = c.take_line.new.slip in
     let told = c.in_ok-take_line.ensures in
     let taken = accepted (take_line true line) b told.answer told.book in
     let settled = c.in-Listed.ensures in
-    let is_row = c.symbols.ensures.row ∙ ap row (only_slip c.settle.new.slips _ c.settle.array_long) in
+    let is_row = c.symbols.ensures.row ∙ ap row (get_or_default c.settle.new.slips 0 _ fresh (search rules)) in
     let p = err_from_is_err_and c.from_residual-in_err-sail.result c.from_residual-in_err-sail.ensures.1 in
     rw (p.1, p.2) (only_unread finish_rows settled.decided line b taken settled.follows _ is_row _ c.in_err-sail.ensures)
 
 pub returns : goal.returns
 returns c =
     let line = c.args.line.now in
-    let b = view c.take_line.new.slip in
+    let b = c.take_line.new.slip in
     let told = c.in_ok-take_line.ensures in
     let taken = accepted (take_line true line) b told.answer told.book in
     let settled = c.in-Listed.ensures in
-    let is_row = c.symbols.ensures.row ∙ ap row (only_slip c.settle.new.slips _ c.settle.array_long) in
+    let is_row = c.symbols.ensures.row ∙ ap row (get_or_default c.settle.new.slips 0 _ fresh (search rules)) in
     rw c.nonzero.ensures
     (only_read finish_rows settled.decided line b taken settled.follows _ is_row _ _ c.in_ok-sail.ensures)

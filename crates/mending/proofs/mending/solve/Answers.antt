@@ -2,14 +2,13 @@ use Rattle.std.proofs.Common.{◌≡◌, length, refl}
 use Rattle.book.specs.Calls.{solves}
 use Rattle.book.specs.Codes.{rows_of}
 use Rattle.book.specs.Patterns.{held}
-use Rattle.slip.specs.View.{view}
 use Rattle.mending.proofs.Finding.{past, solved, zero_number}
 use Rattle.mending.proofs.mending.solve.Goals as goal
 
 pub returns-in-Ok : goal.returns-in-Ok
 returns-in-Ok g c =
     let C = rows_of g.C.SymbolField.Field.numbers g.C.SymbolField.Field.field g.C.Checksum.code in
-    let b = view c.args.slip.now in
+    let b = c.args.slip.now in
     let r = length c.args.records.now in
     let w = length c.args.work.now in
     let cs = c.records.result.now in

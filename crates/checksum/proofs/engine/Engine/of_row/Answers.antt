@@ -2,7 +2,6 @@ use Rattle.std.proofs.Common.{◌≡◌, ◌∷◌, reverse, sym, ap, ◌∙◌,
 use Rattle.algebra.specs.Code.{residue, residue_from}
 use Rattle.algebra.specs.Remainder.{Remainder}
 use Rattle.algebra.proofs.Remainder.{residue_remainder}
-use Rattle.checksum.specs.Engine.{held}
 use Rattle.checksum.proofs.engine.Engine.of_row.Goals as goal
 
 pub returns : goal.returns
@@ -10,8 +9,7 @@ returns g c =
     let F = g.C.SymbolField.Field.field in
     let code = g.C.Checksum.code in
     let row = c.args.row.now in
-    let is : held code c.input_row.new.self.entries ≡ residue F code row =
-    c.input_row.ensures ∙ ap (λ r. residue_from F code.lower r row) c.new-engine.ensures in
+    let is : c.input_row.new.self ≡ residue F code row = c.input_row.ensures ∙ ap (λ r. residue_from F code.lower r row) c.new-engine.ensures in
     record {
       residue = is;
       remainder = subst (Remainder F code.lower (reverse (F.𝟙 ∷ row))) (sym is) (residue_remainder F code c.laws.ensures.lawful.some_checks row);

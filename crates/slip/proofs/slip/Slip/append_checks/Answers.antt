@@ -1,23 +1,21 @@
-use Rattle.std.proofs.Common.{◌++◌, map, refl, ap, ◌∙◌, rules}
-use Rattle.checksum.specs.Engine.{held}
-use Rattle.checksum.proofs.Sizes.{engine_fits, sixteen_fit}
-use Rattle.book.specs.Book.{row, sure}
-use Rattle.slip.specs.View.{view}
-use Rattle.slip.proofs.Sealing.{front_seal}
+use Rattle.std.proofs.Common.{false, length, map, ap, ◌∙◌, ◌++◌, arith}
+use Rattle.std.proofs.lemmas.List.{length_push}
+use Rattle.algebra.specs.Code.{closing}
+use Rattle.book.specs.Book.{sure}
+use Rattle.slip.specs.View.{at}
+use Rattle.slip.proofs.Sealing.{append_more, append_all}
 use Rattle.slip.proofs.slip.Slip.append_checks.Goals as goal
 
-pub engine-requires : goal.engine-requires
-engine-requires g c = search (rules, engine_fits)
-
-pub closing-closing-requires : goal.closing-closing-requires
-closing-closing-requires g c = search (rules, engine_fits, sixteen_fit)
+pub loop-symbol-preserved : goal.loop-symbol-preserved
+loop-symbol-preserved g c = (
+  append_more g.C.SymbolField.Field.numbers c.loop-symbol.self c.push.new.self _ c.symbols-symbol-items.result.now c.loop-symbol.symbol-index
+      c.number.result c.symbol-item.result c.loop-symbol-test.true c.push.ensures c.number.ensures.number c.symbol-item.is c.loop-symbol.invariant.0,
+  omega (arith, ap length c.push.ensures, length_push c.loop-symbol.self (at c.number.result false), c.loop-symbol.invariant.1),
+)
 
 pub returns : goal.returns
 returns g c =
-    let code = g.C.Checksum.code in
-    let b = view c.args.self.now in
-    c.append.ensures
-    ∙ ap (λ vs. b ++ map sure vs)
-    (front_seal g.C.SymbolField.Field.numbers g.C.SymbolField.Field.field code c.laws.ensures.lawful.target_length
-    (row b) (row b) (held code c.engine.result.entries) c.closing-closing.result c.checksum_length.result
-    c.checksum_length.ensures refl c.engine.ensures c.closing-closing.ensures)
+    let N = g.C.SymbolField.Field.numbers in
+    append_all N c.loop-symbol.self _ c.symbols-symbol-items.result.now c.loop-symbol.symbol-index c.loop-symbol-test.false c.loop-symbol.invariant.0
+    ∙ ap (λ xs. c.args.self.now ++ map sure (map N.number xs))
+    (c.symbols-symbol-items.ensures.symbols ∙ c.closing-checks.ensures ∙ ap (closing g.C.SymbolField.Field.field g.C.Checksum.code) c.engine.ensures)
