@@ -24,6 +24,10 @@ same_some r d e = some_same (sym d ∙ e)
 pub never_both : {A : Type 0} (r : Option A) {x : A} → r ≡ None → r ≡ Some x → ⊥
 never_both r d e = let z : ◌≡◌ {A = ℕ} 0 1 = cc in omega arith
 
+-- a list that has entries is not refused
+pub answer_is : {X : Type 0} {given : ℕ} {x y : X} {r : Result X ListFault} → 0 < given → r ≡ asked given x → r ≡ Ok y → y ≡ x
+answer_is {given = given} {x = x} some answer is = let allowed = asked_some given x some in cc
+
 module _ {A : Type 0} (F : FieldOn A) where
   open F use {𝟘, 𝟙, mul as ◌⊗◌, neg as ⊖◌, inv, mul_inv, mul_assoc}
 

@@ -7,6 +7,7 @@ ghost use Rattle.book.specs.Book.{marks};
 ghost use Rattle.book.specs.Codes.{rows_of};
 ghost use Rattle.correction.specs.Decoded.{Tells};
 ghost use Rattle.correction.specs.Proposals.{Proposes, worked};
+ghost use Rattle.slip.specs.View.{Holdable};
 
 use crate::forney::Forney;
 use crate::listing::{list_erasures, list_errors};
@@ -46,14 +47,15 @@ fn propose<C: Checksum>(
 ) -> Option<Pattern>
     requires syndromes { length s.now ≡ bound C.Checksum.code }
     requires room { 8 * (length s.now + 2) ≤ length work.old }
-    ensures { Tells C.CorrectionField.Field.field C.CorrectionField.ExtensionField.lifted C.SymbolField.Field.numbers s.now (marks slip.now) C.Checksum.code.root C.Checksum.code.first result }
+    ensures tells { Tells C.CorrectionField.Field.field C.CorrectionField.ExtensionField.lifted C.SymbolField.Field.numbers s.now (marks slip.now) C.Checksum.code.root C.Checksum.code.first result }
+    ensures holdable { Holdable slip.now }
 {
     C::laws();
+    let marks = slip.marks();
     let doubts = slip.doubts();
     if doubts > s.len() {
         return None;
     }
-    let marks = slip.marks();
     let root = C::root_generator();
     let (first, _) = C::root_exponents();
     let Located {

@@ -5,10 +5,12 @@ use Rattle.decoding.proofs.Linear.{turned_more, turned_all}
 use Rattle.correction.proofs.locating.times_linear.Goals as goal
 
 pub loop-entry-preserved : goal.loop-entry-preserved
-loop-entry-preserved g c = turned_more c.loop-entry.invariant c.loop-entry-test.true c.entry-item.is c.mul.ensures c.difference.ensures
+loop-entry-preserved g c =
+    rw (c.replace-below.ensures.value, c.replace-below.ensures.after)
+    (turned_more c.loop-entry.invariant c.loop-entry-test.true c.entry-item.is c.mul.ensures c.difference-next.ensures)
 
 pub returns : goal.returns
 returns g c =
     let below_top = length c.args.list.now - 1 in
-    turned_all c.loop-entry.invariant c.loop-entry-test.false (omega arith) c.zero.ensures c.mul-2.ensures c.difference-2.ensures
+    turned_all c.loop-entry.invariant c.loop-entry-test.false (omega arith) c.zero.ensures c.mul-2.ensures c.difference.ensures
     ∙ sym (ap (lin g.F.Field.field c.args.x) (ap (take below_top) c.in-Some.ensures.cases.0 ∙ take_at c.in-Some.list.now (c.in-Some.top.now ∷ []) below_top (omega (arith, c.in-Some.ensures.cases.1))))

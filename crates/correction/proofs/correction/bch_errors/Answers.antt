@@ -1,0 +1,14 @@
+use Rattle.std.proofs.Common.{refl}
+use Rattle.book.specs.Book.{marks}
+use Rattle.slip.proofs.Below.{row_below}
+use Rattle.correction.proofs.Nearby.{proposes}
+use Rattle.correction.proofs.correction.bch_errors.Goals as goal
+
+pub returns-clause-proposes : goal.returns-clause-proposes
+returns-clause-proposes g c n short long near =
+    let N = g.C.SymbolField.Field.numbers in
+    let slip = c.args.slip.now in
+    proposes N g.C.SymbolField.Field.field g.C.CorrectionField.Field.field g.C.CorrectionField.ExtensionField.lifted c.lift_laws.ensures g.C.Checksum.code c.laws.ensures.lawful
+    g.C.CorrectionField.Field.numbers g.C.CorrectionField.Field.units g.met.C.CorrectionField.Field.cyclic
+    slip (row_below N.size c.laws.ensures.alphabet slip c.propose-proposal.ensures.holdable) c.syndromes.new.out (marks slip) c.syndromes.ensures refl n short near
+    c.propose-proposal.result c.propose-proposal.ensures.tells
