@@ -80,7 +80,7 @@ module _ {E S : Type 0} {F : FieldOn E} {up : S → E} {N : Numbers S} where
         records = λ n Y complete.
             let few = complete.few in
             let empty = ap length fresh in
-            absurd (never_both r none (erasures Y record { changes = doubted complete; room = omega arith }).0)
+            absurd (never_both r none (erasures Y record { changes = doubted complete; room = omega arith }).0);
       }
 
       module _ {errors : List E} {after : List Record} {t : Option (Unit {0})} (e : errors ≡ located F up N s marks a first)

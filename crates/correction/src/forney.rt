@@ -20,7 +20,7 @@ pub(crate) struct Forney<'a, E: ExtensionField> {
     ghost nonzero: { root ≢ E.Field.field.𝟘 },
     ghost small: { first ≤ 65535 },
     ghost some: { 0 < length evaluator.now },
-    ghost size: { E.BaseField.Field.numbers.size ≡ 32 },
+    ghost alphabet: { E.BaseField.Field.numbers.size ≡ 32 },
 }
 
 // x to a power.

@@ -51,25 +51,26 @@ fn position_of(index: usize, order: usize) -> usize
     ensures { result ≡ root_position order index }
 {
     if index == 0 {
-        return 0;
+        0
+    } else {
+        order.saturating_sub(index)
     }
-    order.saturating_sub(index)
 }
 
-// The records of the places at whose positions the connection list has roots, in the order in which the roots are found.
+// The records of the places at whose positions the error locator has roots, in the order in which the roots are found.
 pub(crate) fn list_errors<E: ExtensionField>(
     forney: &Forney<E>,
-    conn: &[E],
+    locator: &[E],
     len: usize,
     pattern: &mut Pattern,
 ) -> Option<()>
     requires short { len ≤ 65535 }
-    requires list { 0 < length conn.now }
-    ensures { (ord : ℕ) → HasOrder E.Field.field forney.now.root ord → Lists (OnRow len (ChangeAt forney.now)) len (map (root_position ord) (root_indices E.Field.field conn.now forney.now.root ord)) (held pattern.old) result (held pattern.new) }
+    requires list { 0 < length locator.now }
+    ensures { (ord : ℕ) → HasOrder E.Field.field forney.now.root ord → Lists (OnRow len (ChangeAt forney.now)) len (map (root_position ord) (root_indices E.Field.field locator.now forney.now.root ord)) (held pattern.old) result (held pattern.new) }
 {
     let order = multiplicative_order(forney.root).unwrap();
     let mut roots = find_nonzero_distinct_roots(forney.root).unwrap();
-    while let Some(index) = roots.next(conn).unwrap() {
+    while let Some(index) = roots.next(locator).unwrap() {
         let position = position_of(index, order);
         if position >= len {
             return None;

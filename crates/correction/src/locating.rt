@@ -29,9 +29,7 @@ fn times_linear<F: Field>(list: &mut [F], x: F)
     requires { 0 < length list.old }
     ensures { list.new ≡ lin F.field x (take (length list.old - 1) list.old) }
 {
-    let Some((top, list)) = list.split_last_mut() else {
-        return;
-    };
+    let (top, list) = list.split_last_mut().unwrap();
     let mut below = F::zero();
     for entry in list.iter_mut() {
         let next = difference(*entry, x.mul(below));
@@ -61,7 +59,7 @@ fn erasure_locator<'a, F: Field>(marks: &[bool], a: F, list: &'a mut [F]) -> &'a
 
 // The syndromes with the erasures folded out.
 #[tactic(auto, using(crate::proofs::Sizes::few_convolved, crate::proofs::Sizes::some_convolved))]
-fn convolved<'a, F: Field>(erasures: &[F], s: &[F], list: &'a mut [F]) -> &'a [F]
+fn folded_syndromes<'a, F: Field>(erasures: &[F], s: &[F], list: &'a mut [F]) -> &'a [F]
     requires given { 0 < length erasures.now }
     requires room { length s.now < length list.old }
     ensures list { result.now ≡ spec.convolved F.field erasures.now s.now }
@@ -73,7 +71,7 @@ fn convolved<'a, F: Field>(erasures: &[F], s: &[F], list: &'a mut [F]) -> &'a [F
 
 // The connection list of the shortest register that generates the terms.
 #[tactic(auto, using(crate::proofs::Sizes::some_connection))]
-fn register<'a, F: Field>(terms: &[F], list: &'a mut [F], second: &mut [F]) -> &'a [F]
+fn connection_list<'a, F: Field>(terms: &[F], list: &'a mut [F], second: &mut [F]) -> &'a [F]
     requires given { 0 < length terms.now }
     requires room { length terms.now < length list.old }
     requires second { 2 * (length terms.now + 1) ≤ length second.old }
@@ -87,8 +85,8 @@ fn register<'a, F: Field>(terms: &[F], list: &'a mut [F], second: &mut [F]) -> &
 // The product of two lists, cut at d.
 #[tactic(auto, using(crate::proofs::Sizes::cut_product, crate::proofs::Sizes::few_product, crate::proofs::Sizes::some_product))]
 fn product<'a, F: Field>(p: &[F], q: &[F], d: usize, list: &'a mut [F]) -> &'a [F]
-    requires first { 0 < length p.now }
-    requires second { 0 < length q.now }
+    requires left { 0 < length p.now }
+    requires right { 0 < length q.now }
     requires room { min d (length p.now + length q.now) ≤ length list.old }
     ensures list { result.now ≡ spec.product F.field p.now q.now d }
     ensures some { 0 < d → 0 < length result.now }
@@ -97,8 +95,9 @@ fn product<'a, F: Field>(p: &[F], q: &[F], d: usize, list: &'a mut [F]) -> &'a [
     &list[..n]
 }
 
+// The formal derivative of a list.
 #[tactic(auto, using(crate::proofs::Sizes::few_derivative))]
-fn derivative<'a, F: Field>(p: &[F], list: &'a mut [F]) -> &'a [F]
+fn derivative_of<'a, F: Field>(p: &[F], list: &'a mut [F]) -> &'a [F]
     requires given { 0 < length p.now }
     requires room { length p.now ≤ length list.old + 1 }
     ensures { result.now ≡ spec.derivative F.field p.now }
@@ -107,8 +106,8 @@ fn derivative<'a, F: Field>(p: &[F], list: &'a mut [F]) -> &'a [F]
     &list[..n]
 }
 
-// What decoding the syndromes s finds, the marked places being erased. The working list is cut into parts, each of two
-// entries more than there are syndromes, and the register's second list of twice as many.
+// What decoding the syndromes s finds, the marked places being erased. The working list is cut into parts of two entries
+// more than there are syndromes, and the register's second list, which has twice as many.
 #[tactic(auto, using(crate::proofs::Sizes::few_convolved))]
 pub(crate) fn locate<'a, F: Field>(
     s: &[F],
@@ -128,19 +127,19 @@ pub(crate) fn locate<'a, F: Field>(
     ensures some_values { 0 < length result.evaluator.now }
 {
     let part = s.len() + 2;
-    let (gamma, rest) = work.split_at_mut(part);
-    let (folded, rest) = rest.split_at_mut(part);
-    let (conn, rest) = rest.split_at_mut(part);
+    let (erasures, rest) = work.split_at_mut(part);
+    let (terms, rest) = rest.split_at_mut(part);
+    let (errors, rest) = rest.split_at_mut(part);
     let (second, rest) = rest.split_at_mut(2 * part);
     let (errata, rest) = rest.split_at_mut(part);
-    let (evaluator, slopes) = rest.split_at_mut(part);
-    let erasures = erasure_locator(marks, a, gamma);
-    let terms = convolved(erasures, s, folded);
-    let errors = register(terms, conn, second);
+    let (evaluator, derivative) = rest.split_at_mut(part);
+    let erasures = erasure_locator(marks, a, erasures);
+    let terms = folded_syndromes(erasures, s, terms);
+    let errors = connection_list(terms, errors, second);
     let errata = product(errors, erasures, usize::MAX, errata);
     Located {
         errors,
         evaluator: product(errata, s, s.len(), evaluator),
-        derivative: derivative(errata, slopes),
+        derivative: derivative_of(errata, derivative),
     }
 }

@@ -12,8 +12,8 @@ abbrev pub invariant-loop-index : goal.invariant-loop-index
 invariant-loop-index g l =
     let F = g.E.Field.field in
     HasOrder F l.forney.root l.order
-    × Onward (OnRow l.len (ChangeAt l.forney)) l.len (map (root_position l.order) (roots F l.conn l.forney.root l.order))
-    (held l.initial.pattern) (map (root_position l.order) (coming F l.conn l.roots)) (held l.pattern)
+    × Onward (OnRow l.len (ChangeAt l.forney)) l.len (map (root_position l.order) (roots F l.locator l.forney.root l.order))
+    (held l.initial.pattern) (map (root_position l.order) (coming F l.locator l.roots)) (held l.pattern)
 
 abbrev pub decreases-loop-index : goal.decreases-loop-index
-decreases-loop-index g l = length (coming g.E.Field.field l.conn l.roots)
+decreases-loop-index g l = length (coming g.E.Field.field l.locator l.roots)

@@ -8,17 +8,17 @@ product-errata-requires-clause-room g c =
     let s = c.args.s.now in
     let marks = c.args.marks.now in
     let errors = errors_are F s marks c.args.a c.requires.few c.requires.some c.requires.short c.requires.nonzero
-    c.erasure_locator-erasures.ensures.list c.convolved-terms.ensures.list c.register-errors.ensures.list in
+    c.erasure_locator-erasures.ensures.list c.folded_syndromes-terms.ensures.list c.connection_list-errors.ensures.list in
     omega (arith, few_errors F s marks c.args.a c.requires.few c.requires.some c.requires.short c.requires.nonzero errors)
 
-pub derivative-requires-clause-room : goal.derivative-requires-clause-room
-derivative-requires-clause-room g c =
+pub derivative_of-requires-clause-room : goal.derivative_of-requires-clause-room
+derivative_of-requires-clause-room g c =
     let F = g.F.Field.field in
     let s = c.args.s.now in
     let marks = c.args.marks.now in
     let erasures = c.erasure_locator-erasures.ensures.list in
     let errors = errors_are F s marks c.args.a c.requires.few c.requires.some c.requires.short c.requires.nonzero
-    erasures c.convolved-terms.ensures.list c.register-errors.ensures.list in
+    erasures c.folded_syndromes-terms.ensures.list c.connection_list-errors.ensures.list in
     let MAX : ℕ = 18446744073709551615 in
     omega (arith, few_errata F s marks c.args.a c.requires.few c.requires.some c.requires.short c.requires.nonzero MAX (omega arith) errors erasures c.product-errata.ensures.list)
 
@@ -29,12 +29,12 @@ returns g c =
     let marks = c.args.marks.now in
     let erasures = c.erasure_locator-erasures.ensures.list in
     let errors = errors_are F s marks c.args.a c.requires.few c.requires.some c.requires.short c.requires.nonzero
-    erasures c.convolved-terms.ensures.list c.register-errors.ensures.list in
+    erasures c.folded_syndromes-terms.ensures.list c.connection_list-errors.ensures.list in
     let MAX : ℕ = 18446744073709551615 in
     record {
       errors = errors;
       evaluator = values_are F s marks c.args.a c.requires.few c.requires.some c.requires.short c.requires.nonzero MAX (omega arith) errors erasures c.product-errata.ensures.list c.product.ensures.list;
-      slopes = slopes_are F s marks c.args.a c.requires.few c.requires.some c.requires.short c.requires.nonzero MAX (omega arith) errors erasures c.product-errata.ensures.list c.derivative.ensures;
-      some_errors = c.register-errors.ensures.some;
+      slopes = slopes_are F s marks c.args.a c.requires.few c.requires.some c.requires.short c.requires.nonzero MAX (omega arith) errors erasures c.product-errata.ensures.list c.derivative_of.ensures;
+      some_errors = c.connection_list-errors.ensures.some;
       some_values = omega (arith, c.product.ensures.some);
     }

@@ -2,5 +2,13 @@ use Rattle.correction.proofs.syndromes.syndromes.Goals as goal
 
 pub returns : goal.returns
 returns g c =
-    simp (c.values_at_powers.ensures, c.requires, c.root_generator.ensures, c.root_exponents-first.ensures, c.subtract_target.ensures,
-    c.copy_from_slice.ensures.after, c.residue.ensures.coefficients, c.engine-engine.ensures)
+    simp (
+      c.values_at_powers.ensures,
+      c.requires,
+      c.root_generator.ensures,
+      c.root_exponents-first.ensures,
+      c.subtract_target.ensures,
+      c.copy_from_slice.ensures.after,
+      c.residue.ensures.coefficients,
+      c.engine-engine.ensures,
+    )
