@@ -103,4 +103,4 @@ module _ {S E : Type 0} (N : Numbers S) (s : FieldOn S) (e : FieldOn E) (up : S 
         }
 
     pub proposes : (r : Option Pattern) → Tells e up N list ms C.root C.first r → proposed r ≡ Some (changes (rows_of N s C) b n)
-    proposes r tells = tells ord Y complete ∙ ap Some listed
+    proposes r tells = tells.records ord Y complete ∙ ap Some listed

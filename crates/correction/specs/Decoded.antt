@@ -33,6 +33,6 @@ module _ {E S : Type 0} (F : FieldOn E) (up : S → E) (N : Numbers S) (s : List
     pub few : length (positions marks) + length (found n) ≤ 16
     pub within : 2 * (length located - 1) + length (positions marks) ≤ length s
 
-  abbrev pub Tells : Option Pattern → Type 0
-  Tells r = (n : ℕ) (Y : ℕ → ℕ) → Complete n Y
-      → proposed r ≡ Some (map (record_of (length marks) Y) (positions marks) ++ map (record_of (length marks) Y) (found n))
+  pub record Tells (r : Option Pattern) : Type 0 where
+    pub records : (n : ℕ) (Y : ℕ → ℕ) → Complete n Y
+        → proposed r ≡ Some (map (record_of (length marks) Y) (positions marks) ++ map (record_of (length marks) Y) (found n))
