@@ -1,5 +1,6 @@
 -- A row from which changes are subtracted one after another. Assumes nothing.
-use Rattle.std.proofs.Common.{◌≡◌, ℕ, zero, suc, ◌+◌, ◌<◌, ◌≤◌, All, List, [], ◌∷◌, map, length, get_or, drop, set, sym, refl, ap, ◌∙◌, subst, arith}
+use Rattle.std.proofs.Common.{◌≡◌, ℕ, ◌+◌, ◌<◌, ◌≤◌, All, List, [], ◌∷◌, map, length, get_or, drop, set, sym, refl, ap, ◌∙◌, subst, arith}
+use Rattle.std.proofs.lemmas.List.Elements.{All-cons, All-nil}
 use Rattle.std.proofs.lemmas.List.{at_drop_more, length-map, set_past}
 use Rattle.algebra.specs.Series as series
 use Rattle.book.specs.Book.{row, sure}
@@ -26,20 +27,12 @@ pub row_sure : (vs : List ℕ) → row (map sure vs) ≡ vs
 row_sure [] = refl
 row_sure (v ∷ vs) = ap (λ (ws : List ℕ). v ∷ ws) (row_sure vs)
 
--- between what holds at each place and the same by recursion
+-- from what holds by recursion to the same of each place
 pub at_each : {X : Type 0} (P : X → Type 0) (xs : List X) → series.All P xs → All P xs
-at_each P [] h k d l = absurd (omega arith)
-at_each P (x ∷ xs) h zero d l = h.0
-at_each P (x ∷ xs) h (suc k) d l = at_each P xs h.1 k d (omega arith)
-
-pub each : {X : Type 0} (P : X → Type 0) (xs : List X) → All P xs → series.All P xs
-each P [] h = tt
-each P (x ∷ xs) h = (h 0 x (omega arith), each P xs (λ k d l. h (suc k) d (omega arith)))
+at_each P [] h = All-nil P
+at_each P (x ∷ xs) h = All-cons P x xs h.0 (at_each P xs h.1)
 
 pub sure_holdable : (vs : List ℕ) → length vs ≤ 89 → All (λ v. v < 32) vs → Holdable (map sure vs)
 sure_holdable vs room below =
     let long : ◌≡◌ {A = ℕ} (length (map sure vs)) (length vs) = length-map vs sure in
-    record {
-      room = omega arith;
-      symbols = subst (λ (ws : List ℕ). series.All (λ v. v < 32) ws) (sym (row_sure vs)) (each (λ v. v < 32) vs below);
-    }
+    record { room = omega arith; symbols = subst (λ (ws : List ℕ). All (λ v. v < 32) ws) (sym (row_sure vs)) below }

@@ -1,8 +1,9 @@
-use Rattle.std.proofs.Common.{length, sym, rules}
+use Rattle.std.proofs.Common.{length, sym, refl, rules}
 use Rattle.std.proofs.lemmas.Result.{err_from_is_err_and}
 use Rattle.book.specs.Calls.{barred}
 use Rattle.book.specs.Codes.{rows_of}
 use Rattle.book.proofs.Numbers.{rows_lawful}
+use Rattle.slip.proofs.Below.{row_below}
 use Rattle.mending.proofs.Finding.{checked}
 use Rattle.mending.proofs.mending.find.Goals as goal
 
@@ -17,5 +18,5 @@ returns-clause-found g c =
     let s = g.C.SymbolField.Field.field in
     let C = rows_of N s g.C.Checksum.code in
     let law = rows_lawful N s g.C.CorrectionField.Field.field g.C.CorrectionField.ExtensionField.lifted c.lift_laws.ensures g.C.Checksum.code c.laws.ensures.lawful c.laws.ensures.alphabet in
-    rw c.ok_or.ensures.value (checked C c.args.records (length c.args.work.now) c.args.slip.now law c.can_mend.ensures.holdable.symbols (sym c.in_ok-can_mend.ensures.fault)
+    rw c.ok_or.ensures.value (checked C c.args.records (length c.args.work.now) c.args.slip.now law (row_below 32 refl c.args.slip.now c.can_mend.ensures.holdable) (sym c.in_ok-can_mend.ensures.fault)
     c.bch_errors.result c.filter.result _ (λ p t k. search rules) c.bch_errors.ensures.proposes c.filter.ensures)
