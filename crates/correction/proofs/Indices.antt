@@ -1,6 +1,7 @@
 -- A search for roots: where it starts, and its next index. Assumes nothing.
 use Rattle.std.proofs.Common.{◌≡◌, ℕ, ◌<◌, List, [], ◌∷◌, map, length, drop, Some, Ok, Option, Result, sym, refl, ap, ◌∙◌, subst, arith}
 use native.Mathlib.Decide.{dec_lt}
+use Rattle.std.proofs.lemmas.Option.{none-some, same_Some}
 use Rattle.std.specs.List.{slice_get}
 use Rattle.algebra.specs.Decode.{root_position}
 use Rattle.algebra.specs.Field.{FieldOn, HasOrder}
@@ -12,7 +13,6 @@ use Rattle.polynomial.specs.Roots.{roots, coming, Stepped}
 use Rattle.polynomial.specs.declared.roots.Roots.{Roots}
 use Rattle.correction.specs.Listing.{Lists}
 use Rattle.correction.proofs.Onward.{Onward}
-use Rattle.correction.proofs.Values.{never_both, some_same}
 
 module _ {A : Type 0} (F : FieldOn A) (a : A) where
   same_order : (m n : ℕ) → HasOrder F a m → HasOrder F a n → m ≡ n
@@ -40,8 +40,8 @@ module _ {A : Type 0} (F : FieldOn A) (p : List A) (some : 0 < length p) (c : Ro
   stepped (x ∷ q) c' some s = s
 
   first_some : (js : List ℕ) (x : ℕ) → Some x ≡ slice_get js 0 → js ≡ x ∷ drop 1 js
-  first_some [] x e = absurd (never_both (slice_get [] 0) refl (sym e))
-  first_some (j ∷ js) x e = ap (λ k. k ∷ js) (sym (some_same e))
+  first_some [] x e = absurd (none-some x (sym e))
+  first_some (j ∷ js) x e = ap (λ k. k ∷ js) (sym (same_Some x j e))
 
   first_none : (js : List ℕ) → ((x : ℕ) → ¬ (slice_get js 0 ≡ Some x)) → js ≡ []
   first_none [] never = refl

@@ -2,15 +2,14 @@
 --   Onward   records hs, with those of ps to come, are what the first ones are with those of all positions
 use Rattle.std.proofs.Common.{◌≡◌, ℕ, ◌+◌, ◌-◌, ◌<◌, ◌≤◌, Bool, true, false, List, [], ◌∷◌, ◌++◌, map, length, get_or, drop, Some, None, Option, sym, refl, ap, ◌∙◌, subst, append_assoc, append-nil, arith}
 use Rattle.std.proofs.lemmas.List.{at_drop_more, length-append, length-drop, length-map}
+use Rattle.std.proofs.lemmas.Option.{none-some}
 use Rattle.algebra.specs.Rows.{positions}
 use Rattle.algebra.specs.Series.{All}
 use Rattle.book.specs.declared.record.Record.{Record}
 use Rattle.correction.specs.Listing.{record_of, Added, Listable, Lists}
-use Rattle.book.specs.Patterns.{held, Pushed}
-use Rattle.book.specs.declared.pattern.Pattern.{Pattern}
-use Rattle.correction.proofs.Values.{never_both}
+use Rattle.book.specs.Patterns.{Pushed}
 
-pub pushed_added : (new : Record) (before after : Pattern) (r : Option (Unit {0})) → Pushed new before r after → Added new (held before) r (held after)
+pub pushed_added : (new : Record) (before after : List Record) (r : Option (Unit {0})) → Pushed new before r after → Added new before r after
 pushed_added new before after None p room = let full = p.0 in absurd (omega arith)
 pushed_added new before after (Some u) p room = (refl, p)
 
@@ -43,7 +42,7 @@ module _ {Change : ℕ → ℕ → Type 0} (n : ℕ) {all : List ℕ} {before : 
 
     -- it is never refused, so that anything can be said of a refusal
     pub never_none : r ≡ None → {after : List Record} {t : Option (Unit {0})} → Lists Change n all before t after
-    never_none e Y l = absurd (never_both r e (step Y l).0)
+    never_none e Y l = absurd (none-some tt (sym e ∙ (step Y l).0))
 
 -- one list of positions after another, from none on
 pub both_listed : (Change Change' : ℕ → ℕ → Type 0) (n : ℕ) (ps qs : List ℕ) (between after : List Record) (r t : Option (Unit {0})) (Y : ℕ → ℕ)

@@ -3,6 +3,7 @@
 --   refused_erasures, refused_rest   nor is a record refused
 --   all_proposed                     the records are the doubted places' and then the errors'
 use Rattle.std.proofs.Common.{◌≡◌, ℕ, ◌+◌, ◌-◌, ◌*◌, ◌<◌, Bool, List, [], ◌++◌, map, length, Some, None, Option, sym, ap, ◌∙◌, subst, ap₂, arith}
+use Rattle.std.proofs.lemmas.Option.{none-some}
 use Rattle.algebra.specs.Decode.{errata_locator, errata_evaluator, root_position}
 use Rattle.algebra.specs.Field.{FieldOn, Numbers, HasOrder, pow}
 use Rattle.algebra.specs.Poly.{coeff, eval}
@@ -10,7 +11,6 @@ use Rattle.algebra.specs.Rows.{count, positions}
 use Rattle.algebra.specs.Series.{All, deriv}
 use Rattle.algebra.proofs.Flags.{length_positions}
 use Rattle.algebra.proofs.Members.{all_map}
-use Rattle.book.specs.Patterns.{held}
 use Rattle.book.specs.declared.pattern.Pattern.{Pattern}
 use Rattle.book.specs.declared.record.Record.{Record}
 use Rattle.polynomial.specs.Roots.{roots}
@@ -18,7 +18,6 @@ use Rattle.correction.specs.Decoded.{located, Told, found, Complete, Tells}
 use Rattle.correction.specs.Forney.{Valued}
 use Rattle.correction.specs.Listing.{OnRow, Lists, record_of}
 use Rattle.correction.proofs.Onward.{both_listed}
-use Rattle.correction.proofs.Values.{never_both}
 
 module _ {E S : Type 0} {F : FieldOn E} {up : S → E} {N : Numbers S} where
   open F use {mul as ◌⊗◌, neg as ⊖◌, inv}
@@ -80,13 +79,13 @@ module _ {E S : Type 0} {F : FieldOn E} {up : S → E} {N : Numbers S} where
         records = λ n Y complete.
             let few = complete.few in
             let empty = ap length fresh in
-            absurd (never_both r none (erasures Y record { changes = doubted complete; room = omega arith }).0);
+            absurd (none-some tt (sym none ∙ (erasures Y record { changes = doubted complete; room = omega arith }).0));
       }
 
       module _ {errors : List E} {after : List Record} {t : Option (Unit {0})} (e : errors ≡ located F up N s marks a first)
           (rest : (m : ℕ) → HasOrder F a m → Lists (OnRow (length marks) (Valued F up N W D a first)) (length marks) (map (root_position m) (roots F errors a m)) between t after) where
         pub refused_rest : t ≡ None → {u : Option Pattern} → Tells F up N s marks a first u
-        refused_rest none = record { records = λ n Y complete. absurd (never_both t none (all_listed complete e rest).0) }
+        refused_rest none = record { records = λ n Y complete. absurd (none-some tt (sym none ∙ (all_listed complete e rest).0)) }
 
-        pub all_proposed : (p : Pattern) → held p ≡ after → Tells F up N s marks a first (Some p)
-        all_proposed p is = record { records = λ n Y complete. ap Some (is ∙ (all_listed complete e rest).1) }
+        pub all_proposed : Tells F up N s marks a first (Some after)
+        all_proposed = record { records = λ n Y complete. ap Some (all_listed complete e rest).1 }

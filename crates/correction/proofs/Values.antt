@@ -1,5 +1,6 @@
 -- Forney's value, step by step, from what each step answers. Assumes nothing.
-use Rattle.std.proofs.Common.{◌≡◌, ℕ, ◌<◌, List, [], ◌∷◌, length, Some, None, Ok, Err, Option, Result, sym, refl, ap, ◌∙◌, ap₂, arith}
+use Rattle.std.proofs.Common.{◌≡◌, ℕ, ◌<◌, List, [], ◌∷◌, length, Some, Ok, Err, Result, sym, refl, ap, ◌∙◌, arith}
+use Rattle.std.proofs.lemmas.Option.{none-some}
 use Rattle.std.specs.Result.{result_ok}
 use Rattle.algebra.specs.Field.{FieldOn, pow}
 use Rattle.algebra.specs.Poly.{eval}
@@ -15,15 +16,6 @@ use Rattle.fieldvec.specs.declared.fault.ListFault.{ListFault}
 use Rattle.fieldvec.proofs.Filled.{asked_some}
 use Rattle.correction.specs.Forney.{forney}
 
-pub some_same : {A : Type 0} {x y : A} → Some x ≡ Some y → x ≡ y
-some_same e = cc
-
-pub same_some : {A : Type 0} (r : Option A) {x y : A} → r ≡ Some x → r ≡ Some y → x ≡ y
-same_some r d e = some_same (sym d ∙ e)
-
-pub never_both : {A : Type 0} (r : Option A) {x : A} → r ≡ None → r ≡ Some x → ⊥
-never_both r d e = let z : ◌≡◌ {A = ℕ} 0 1 = cc in omega arith
-
 -- a list that has entries is not refused
 pub answer_is : {X : Type 0} {given : ℕ} {x y : X} {r : Result X ListFault} → 0 < given → r ≡ asked given x → r ≡ Ok y → y ≡ x
 answer_is {given = given} {x = x} some answer is = let allowed = asked_some given x some in cc
@@ -35,8 +27,8 @@ module _ {A : Type 0} (F : FieldOn A) where
   infix 80 ⊖◌
   -- a list has a value, unless it is empty
   pub evaluated : (p : List A) (x y : A) → result_ok (asked (length p) (eval F p x)) ≡ Some y → y ≡ eval F p x
-  evaluated [] x y e = absurd (never_both None refl e)
-  evaluated (a ∷ p) x y e = same_some (result_ok (asked (length (a ∷ p)) (eval F (a ∷ p) x))) e (ap result_ok (sym (asked_some (length (a ∷ p)) (eval F (a ∷ p) x) (omega arith))))
+  evaluated [] x y e = absurd (none-some y e)
+  evaluated (a ∷ p) x y e = let allowed = asked_some (length (a ∷ p)) (eval F (a ∷ p) x) (omega arith) in cc
 
   product_inverse : (x y : A) → ¬ (x ≡ 𝟘) → ¬ (y ≡ 𝟘) → inv x ⊗ inv y ≡ inv (x ⊗ y)
   product_inverse x y hx hy = inv_unique F (x ⊗ y) (inv x ⊗ inv y) (

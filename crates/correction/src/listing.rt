@@ -3,7 +3,6 @@ ghost use Rattle.std.specs.Prelude.{◌≡◌, ℕ, ◌<◌, ◌≤◌, map, len
 ghost use Rattle.algebra.specs.Decode.{root_position};
 ghost use Rattle.algebra.specs.Field.{HasOrder};
 ghost use Rattle.algebra.specs.Rows.{positions};
-ghost use Rattle.book.specs.Patterns.{held};
 ghost use Rattle.correction.specs.Changes.{ChangeAt};
 ghost use Rattle.correction.specs.Listing.{Added, Lists, OnRow};
 ghost use Rattle.polynomial.specs.Roots.{roots as root_indices};
@@ -23,7 +22,7 @@ fn list_place<E: ExtensionField>(
     pattern: &mut Pattern,
 ) -> Option<()>
     requires { position ≤ 65535 }
-    ensures { (y : ℕ) → ChangeAt forney.now position y → Added record { place = place; change = y } (held pattern.old) result (held pattern.new) }
+    ensures { (y : ℕ) → ChangeAt forney.now position y → Added record { place = place; change = y } pattern.old result pattern.new }
 {
     let change = forney.change_at(position)?;
     pattern.push(Record { place, change })
@@ -36,7 +35,7 @@ pub(crate) fn list_erasures<E: ExtensionField>(
     pattern: &mut Pattern,
 ) -> Option<()>
     requires { length marks.now ≤ 65535 }
-    ensures { Lists (ChangeAt forney.now) (length marks.now) (positions marks.now) (held pattern.old) result (held pattern.new) }
+    ensures { Lists (ChangeAt forney.now) (length marks.now) (positions marks.now) pattern.old result pattern.new }
 {
     for (place, marked) in marks.iter().enumerate() {
         if *marked {
@@ -66,7 +65,7 @@ pub(crate) fn list_errors<E: ExtensionField>(
 ) -> Option<()>
     requires short { len ≤ 65535 }
     requires list { 0 < length locator.now }
-    ensures { (ord : ℕ) → HasOrder E.Field.field forney.now.root ord → Lists (OnRow len (ChangeAt forney.now)) len (map (root_position ord) (root_indices E.Field.field locator.now forney.now.root ord)) (held pattern.old) result (held pattern.new) }
+    ensures { (ord : ℕ) → HasOrder E.Field.field forney.now.root ord → Lists (OnRow len (ChangeAt forney.now)) len (map (root_position ord) (root_indices E.Field.field locator.now forney.now.root ord)) pattern.old result pattern.new }
 {
     let order = multiplicative_order(forney.root).unwrap();
     let mut roots = find_nonzero_distinct_roots(forney.root).unwrap();

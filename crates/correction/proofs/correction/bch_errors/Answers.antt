@@ -1,5 +1,3 @@
-use Rattle.std.proofs.Common.{refl}
-use Rattle.book.specs.Book.{marks}
 use Rattle.slip.proofs.Below.{row_below}
 use Rattle.correction.proofs.Nearby.{proposes}
 use Rattle.correction.proofs.correction.bch_errors.Goals as goal
@@ -10,5 +8,5 @@ returns-clause-proposes g c n short long near =
     let slip = c.args.slip.now in
     proposes N g.C.SymbolField.Field.field g.C.CorrectionField.Field.field g.C.CorrectionField.ExtensionField.lifted c.lift_laws.ensures g.C.Checksum.code c.laws.ensures.lawful
     g.C.CorrectionField.Field.numbers g.C.CorrectionField.Field.units g.met.C.CorrectionField.Field.cyclic
-    slip (row_below N.size c.laws.ensures.alphabet slip c.propose-proposal.ensures.holdable) c.syndromes.new.out (marks slip) c.syndromes.ensures refl n short near
+    slip (row_below N.size c.laws.ensures.alphabet slip c.propose-proposal.ensures.holdable) c.syndromes.new.out c.syndromes.ensures n short near
     c.propose-proposal.result c.propose-proposal.ensures.tells

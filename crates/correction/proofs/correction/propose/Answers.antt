@@ -1,4 +1,4 @@
-use Rattle.std.proofs.Common.{refl, ap, arith}
+use Rattle.std.proofs.Common.{ap, arith}
 use Rattle.algebra.specs.Rows.{count}
 use Rattle.book.specs.Book.{marks}
 use Rattle.book.proofs.Doubts.{trues_count}
@@ -32,4 +32,4 @@ pub returns-clause-tells : goal.returns-clause-tells
 returns-clause-tells g c =
     tells_at c.marks-marks.ensures.marks c.root_generator-root.ensures (ap (λ p. p.0) c.root_exponents-first.ensures)
     (all_proposed c.locate.result.evaluator.now c.locate.result.derivative.now c.locate.ensures.evaluator c.locate.ensures.slopes c.new-pattern.ensures c.list_erasures.ensures
-    c.locate.ensures.errors c.list_errors.ensures c.list_errors.new.pattern refl)
+    c.locate.ensures.errors c.list_errors.ensures)

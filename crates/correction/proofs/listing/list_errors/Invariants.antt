@@ -1,7 +1,6 @@
 use Rattle.std.proofs.Common.{map, length}
 use Rattle.algebra.specs.Decode.{root_position}
 use Rattle.algebra.specs.Field.{HasOrder}
-use Rattle.book.specs.Patterns.{held}
 use Rattle.correction.specs.Changes.{ChangeAt}
 use Rattle.correction.specs.Listing.{OnRow}
 use Rattle.correction.proofs.Onward.{Onward}
@@ -13,7 +12,7 @@ invariant-loop-index g l =
     let F = g.E.Field.field in
     HasOrder F l.forney.root l.order
     × Onward (OnRow l.len (ChangeAt l.forney)) l.len (map (root_position l.order) (roots F l.locator l.forney.root l.order))
-    (held l.initial.pattern) (map (root_position l.order) (coming F l.locator l.roots)) (held l.pattern)
+    l.initial.pattern (map (root_position l.order) (coming F l.locator l.roots)) l.pattern
 
 abbrev pub decreases-loop-index : goal.decreases-loop-index
 decreases-loop-index g l = length (coming g.E.Field.field l.locator l.roots)

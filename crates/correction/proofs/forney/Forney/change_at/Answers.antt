@@ -1,4 +1,4 @@
-use Rattle.std.proofs.Common.{◌≡◌, sym, ◌∙◌}
+use Rattle.std.proofs.Common.{sym, ◌∙◌}
 use Rattle.algebra.proofs.Orders.{pow_ne_zero}
 use Rattle.correction.proofs.forney.Forney.change_at.Goals as goal
 
