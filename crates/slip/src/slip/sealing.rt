@@ -1,5 +1,5 @@
 // Sealing a slip's row by a code.
-ghost use Rattle.std.specs.Prelude.{◌≡◌, ℕ, ◌+◌, ◌<◌, ◌≤◌, ◌++◌, map, length, Ok, slice_index};
+ghost use Rattle.std.specs.Prelude.{◌≡◌, ◌+◌, ◌≤◌, ◌++◌, map, Ok};
 ghost use Rattle.algebra.specs.Code.{checks, residue, Sound};
 ghost use Rattle.book.specs.Book.{answer, after, row, sure};
 ghost use Rattle.slip.specs.Sealing.{check_symbols, elements, seal};
