@@ -1,7 +1,6 @@
 // Records in fixed memory.
-ghost use Rattle.std.specs.Prelude.{◌≡◌, ◌≤◌, length};
-
 use crate::record::Record;
+use std::marker::Model;
 
 pub mod records;
 
@@ -10,6 +9,30 @@ pub mod records;
 pub struct Pattern {
     records: [Record; 16],
     len: usize,
-    ghost sixteen: { length records ≡ 16 },
-    ghost few: { len ≤ 16 },
+}
+
+// Clauses see the records. What lies past them is blank, so that they alone tell the memory, and a pattern can be copied.
+impl Model for Pattern {
+    ghost use Rattle.std.specs.Prelude.{◌≡◌, ℕ, ◌-◌, List, ◌++◌, length, replicate};
+    ghost use Rattle.book.specs.declared.record.Record.{Record};
+
+    ghost Value = { List Record };
+
+    ghost use Rattle.std.proofs.Common.{sym, ap, ◌∙◌, arith, length-take-le, take-append-drop};
+    ghost use Rattle.book.specs.Patterns.{Kept, blank, memory, records_of};
+
+    ghost view = { records_of };
+
+    ghost invariant = { Kept };
+
+    ghost inverse = { memory };
+
+    ghost inverse_ok = { λ p kept i. record {
+      records = (
+          ap (λ (n : ℕ). records_of p ++ replicate (16 - n) blank) (length-take-le p.len p.records (omega (arith, kept.sixteen, kept.few)))
+          ∙ ap (λ (rest : List Record). records_of p ++ rest) (sym kept.clear)
+          ∙ take-append-drop p.len p.records
+          ) i;
+      len = length-take-le p.len p.records (omega (arith, kept.sixteen, kept.few)) i;
+    } };
 }

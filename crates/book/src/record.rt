@@ -6,3 +6,9 @@ pub struct Record {
     pub place: usize,
     pub change: u8,
 }
+
+/// What stands in a list where no record is yet.
+pub const BLANK: Record = Record {
+    place: 0,
+    change: 0,
+};

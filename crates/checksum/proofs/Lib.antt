@@ -1,4 +1,4 @@
 pub mod Alike
 pub mod Feeds
-pub mod Fills
+pub mod Replaced
 pub mod Sizes

@@ -1,24 +1,35 @@
 // The engine that works out a row's residue symbol by symbol, and with it the checking and the sealing of rows.
-ghost use Rattle.std.specs.Prelude.{◌≡◌, ◌∷◌, reverse, length, replicate, Decides};
+ghost use Rattle.std.specs.Prelude.{List, ◌≡◌, ◌∷◌, reverse, length, take, replicate, Decides};
 ghost use Rattle.algebra.specs.Code.{checks, modulo, one, residue, residue_from, closing, seal, Sound, Seals};
 ghost use Rattle.algebra.specs.Poly.{poly_sub};
 ghost use Rattle.algebra.specs.Remainder.{Remainder};
-ghost use Rattle.checksum.specs.Engine.{held, padded};
 
 use crate::checksum::Checksum;
+use field::arithmetic::difference;
 use field::field::Field;
+use std::marker::Model;
+use std::mem;
 
-/// A running residue: the coefficients of a polynomial of degree below k, lowest power first, in the first k entries.
+/// A running residue: the coefficients of a polynomial of degree below k, lowest power first, in the first k entries. No
+/// code has more than sixteen.
 #[derive(Drop)]
 pub struct Engine<C: Checksum> {
     entries: [C::SymbolField; 16],
-    ghost sixteen: { length entries ≡ 16 },
+}
+
+// Clauses see the residue's k coefficients.
+impl<C: Checksum> Model for Engine<C> {
+    ghost Value = { List C.SymbolField };
+
+    ghost view = { λ e. take (checks C.Checksum.code) e.entries };
+
+    ghost invariant = { λ e. length e.entries ≡ 16 };
 }
 
 impl<C: Checksum> Engine<C> {
     /// The engine before the first symbol: the polynomial 1.
     pub fn new() -> Self
-        ensures { held C.Checksum.code result.entries ≡ one C.SymbolField.Field.field (checks C.Checksum.code) }
+        ensures { result ≡ one C.SymbolField.Field.field (checks C.Checksum.code) }
     {
         C::laws();
         let mut entries = [C::SymbolField::zero(); 16];
@@ -28,22 +39,21 @@ impl<C: Checksum> Engine<C> {
 
     /// One symbol more: residue × x + symbol, modulo the generator polynomial.
     pub fn input_fe(&mut self, symbol: C::SymbolField)
-        ensures { held C.Checksum.code self.new.entries ≡ modulo C.SymbolField.Field.field C.Checksum.code.lower (symbol ∷ held C.Checksum.code self.old.entries) }
+        ensures { self.new ≡ modulo C.SymbolField.Field.field C.Checksum.code.lower (symbol ∷ self.old) }
     {
         C::laws();
-        let k = C::checksum_length();
-        let times = self.entries[k - 1].neg();
+        let residue = &mut self.entries[..C::checksum_length()];
+        let times = residue[residue.len() - 1].neg();
         let mut below = symbol;
-        for i in 0..k {
-            let next = self.entries[i];
-            self.entries[i] = below.add(times.mul(C::generator(i)));
-            below = next;
+        for (power, coefficient) in residue.iter_mut().enumerate() {
+            let next = below.add(times.mul(C::generator(power)));
+            below = mem::replace(coefficient, next);
         }
     }
 
     /// The symbols of a row, from its front.
     pub fn input_row(&mut self, row: &[C::SymbolField])
-        ensures { held C.Checksum.code self.new.entries ≡ residue_from C.SymbolField.Field.field C.Checksum.code.lower (held C.Checksum.code self.old.entries) row.now }
+        ensures { self.new ≡ residue_from C.SymbolField.Field.field C.Checksum.code.lower self.old row.now }
     {
         for symbol in row {
             self.input_fe(*symbol);
@@ -52,9 +62,10 @@ impl<C: Checksum> Engine<C> {
 
     /// The engine after a whole row. Its residue is the remainder, by the generator polynomial, of the polynomial that a
     /// leading 1 and the row's symbols make, highest power first.
+    #[tactic(auto, using(algebra::proofs::Remainder::residue_remainder))]
     pub fn of_row(row: &[C::SymbolField]) -> Self
-        ensures residue { held C.Checksum.code result.entries ≡ residue C.SymbolField.Field.field C.Checksum.code row.now }
-        ensures remainder { Remainder C.SymbolField.Field.field C.Checksum.code.lower (reverse (C.SymbolField.Field.field.𝟙 ∷ row.now)) (held C.Checksum.code result.entries) }
+        ensures residue { result ≡ residue C.SymbolField.Field.field C.Checksum.code row.now }
+        ensures remainder { Remainder C.SymbolField.Field.field C.Checksum.code.lower (reverse (C.SymbolField.Field.field.𝟙 ∷ row.now)) result }
     {
         C::laws();
         let mut engine = Self::new();
@@ -64,60 +75,80 @@ impl<C: Checksum> Engine<C> {
 
     /// The residue's coefficients, lowest power first.
     pub fn residue(&self) -> &[C::SymbolField]
-        ensures { result.now ≡ held C.Checksum.code self.now.entries }
+        ensures coefficients { result.now ≡ self.now }
+        ensures as_many { length result.now ≡ checks C.Checksum.code }
     {
         C::laws();
-        let entries = &self.entries[..];
-        &entries[0..C::checksum_length()]
+        &self.entries[..C::checksum_length()]
     }
 
     /// Whether the residue is the code's target.
     pub fn meets_target(&self) -> bool
-        ensures { Decides result (held C.Checksum.code self.now.entries ≡ C.Checksum.code.target) }
+        ensures { Decides result (self.now ≡ C.Checksum.code.target) }
     {
         C::laws();
-        for i in 0..C::checksum_length() {
-            if self.entries[i] != C::target_residue(i) {
-                return false;
-            }
-        }
-        true
+        let mut coefficients = self.residue().iter().enumerate();
+        coefficients.all(|(power, coefficient)| *coefficient == C::target_residue(power))
     }
 
     fn input_zeros(&mut self)
-        ensures { held C.Checksum.code self.new.entries ≡ residue_from C.SymbolField.Field.field C.Checksum.code.lower (held C.Checksum.code self.old.entries) (replicate (checks C.Checksum.code) C.SymbolField.Field.field.𝟘) }
+        ensures { self.new ≡ residue_from C.SymbolField.Field.field C.Checksum.code.lower self.old (replicate (checks C.Checksum.code) C.SymbolField.Field.field.𝟘) }
     {
-        C::laws();
-        C::SymbolField::small();
-        let zeros = [C::SymbolField::zero(); 16];
-        let zeros = &zeros[..];
-        self.input_row(&zeros[0..C::checksum_length()]);
+        for _ in 0..C::checksum_length() {
+            self.input_fe(C::SymbolField::zero());
+        }
     }
 
     // What the residue lacks to the target, highest power first.
-    fn missing(&self) -> [C::SymbolField; 16]
-        ensures { result ≡ padded C.SymbolField.Field.field (reverse (poly_sub C.SymbolField.Field.field C.Checksum.code.target (held C.Checksum.code self.now.entries))) }
+    fn missing(self) -> CheckSymbols<C>
+        ensures { result ≡ reverse (poly_sub C.SymbolField.Field.field C.Checksum.code.target self) }
     {
         C::laws();
-        let k = C::checksum_length();
-        let mut symbols = [C::SymbolField::zero(); 16];
-        for i in 0..k {
-            let power = k - 1 - i;
-            symbols[i] = C::target_residue(power).add(self.entries[power].neg());
+        let mut entries = self.entries;
+        let residue = &mut entries[..C::checksum_length()];
+        for (power, coefficient) in residue.iter_mut().enumerate() {
+            *coefficient = difference(C::target_residue(power), *coefficient);
         }
-        symbols
+        residue.reverse();
+        CheckSymbols { symbols: entries }
     }
 
-    /// The k symbols that take the residue to the target, in the order of writing, with ZEROs past them.
-    pub fn closing(mut self) -> [C::SymbolField; 16]
-        ensures { result ≡ padded C.SymbolField.Field.field (closing C.SymbolField.Field.field C.Checksum.code (held C.Checksum.code self.entries)) }
+    /// The k symbols that take the residue to the target, in the order of writing.
+    pub fn closing(mut self) -> CheckSymbols<C>
+        ensures { result ≡ closing C.SymbolField.Field.field C.Checksum.code self }
     {
         self.input_zeros();
         self.missing()
     }
 }
 
+/// The k check symbols of a row, in the order of writing, in the first k entries.
+#[derive(Drop)]
+pub struct CheckSymbols<C: Checksum> {
+    symbols: [C::SymbolField; 16],
+}
+
+// Clauses see the k symbols.
+impl<C: Checksum> Model for CheckSymbols<C> {
+    ghost Value = { List C.SymbolField };
+
+    ghost view = { λ s. take (checks C.Checksum.code) s.symbols };
+
+    ghost invariant = { λ s. length s.symbols ≡ 16 };
+}
+
+impl<C: Checksum> CheckSymbols<C> {
+    pub fn symbols(&self) -> &[C::SymbolField]
+        ensures symbols { result.now ≡ self.now }
+        ensures as_many { length result.now ≡ checks C.Checksum.code }
+    {
+        C::laws();
+        &self.symbols[..C::checksum_length()]
+    }
+}
+
 /// Whether a row is sound.
+#[tactic(auto, using(crate::proofs::Sizes::engine_fits))]
 pub fn is_sound<C: Checksum>(row: &[C::SymbolField]) -> bool
     ensures { Decides result (Sound C.SymbolField.Field.field C.Checksum.code row.now) }
 {
@@ -125,10 +156,10 @@ pub fn is_sound<C: Checksum>(row: &[C::SymbolField]) -> bool
     Engine::<C>::of_row(row).meets_target()
 }
 
-/// Seal: the k check symbols that make the row sound, in the order of writing, with ZEROs past them. No other k symbols do.
-pub fn seal<C: Checksum>(row: &[C::SymbolField]) -> [C::SymbolField; 16]
-    ensures checks { result ≡ padded C.SymbolField.Field.field (seal C.SymbolField.Field.field C.Checksum.code row.now) }
-    ensures seals { Seals C.SymbolField.Field.field C.Checksum.code row.now (seal C.SymbolField.Field.field C.Checksum.code row.now) }
+/// Seal: the k check symbols that make the row sound. No other k symbols do.
+pub fn seal<C: Checksum>(row: &[C::SymbolField]) -> CheckSymbols<C>
+    ensures checks { result ≡ seal C.SymbolField.Field.field C.Checksum.code row.now }
+    ensures seals { Seals C.SymbolField.Field.field C.Checksum.code row.now result }
 {
     C::laws();
     C::SymbolField::small();

@@ -3,3 +3,4 @@
 
 pub mod checksum;
 pub mod engine;
+pub mod symbols;

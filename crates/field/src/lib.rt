@@ -5,4 +5,5 @@ pub mod arithmetic;
 pub mod cursor;
 pub mod fault;
 pub mod field;
+pub mod monoid;
 pub mod powers;

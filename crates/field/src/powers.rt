@@ -8,22 +8,14 @@ ghost use Rattle.field.specs.Powers.{inverse_power, power, Ordered};
 use crate::cursor::{Powers, PowersRange};
 use crate::fault::FieldFault;
 use crate::field::Field;
+use crate::monoid::{Product, repeated};
 
-// x to the power n, by squaring.
+// x to the power n: to double among products is to square.
+#[tactic(auto, using(crate::proofs::Monoids::repeated_product))]
 pub(crate) fn by_squaring<F: Field>(x: F, n: usize) -> F
     ensures { result ≡ pow F.field x n }
 {
-    let mut result = F::one();
-    let mut base = x;
-    let mut left = n;
-    while left > 0 {
-        if left % 2 == 1 {
-            result = result.mul(base);
-        }
-        base = base.mul(base);
-        left /= 2;
-    }
-    result
+    repeated(Product(x), n).0
 }
 
 // The inverse's power, refused for ZERO.
@@ -53,14 +45,12 @@ pub fn multiplicative_order<F: Field>(x: F) -> Result<usize, FieldFault>
     if x == F::zero() {
         return Err(FieldFault::Zero);
     }
-    let divisors = F::order_factors();
-    let mut i = 0;
+    let mut divisors = F::order_factors().iter();
     let order = loop {
-        let divisor = divisors[i];
+        let divisor = *divisors.next().unwrap();
         if by_squaring(x, divisor) == F::one() {
             break divisor;
         }
-        i += 1;
     };
     Ok(order)
 }

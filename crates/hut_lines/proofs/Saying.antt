@@ -1,13 +1,11 @@
 -- What a typed line says, and that it says nothing else.
-use Rattle.std.proofs.Common.{◌≡◌, ℕ, true, List, [], ◌∷◌, map, length, get_or, Some, None, Ok, Err, Option, Result, sym, refl, ap, ◌∙◌, subst, ap₂, arith}
+use Rattle.std.proofs.Common.{◌≡◌, ℕ, true, List, [], ◌∷◌, map, Some, None, Ok, Err, Option, Result, sym, refl, ap, ◌∙◌, subst, ap₂, arith}
 use Rattle.field.specs.declared.fault.Refusal.{Refusal}
 use Rattle.book.specs.Book.{Book, row, sure}
 use Rattle.book.specs.Calls.{Answer, Follows, Mends, done, listed, lists, refused, settle, settled, settles, barred, none_near, one_near}
 use Rattle.book.specs.Codes.{Rows}
 use Rattle.book.specs.Mending.{changes, nonzero}
 use Rattle.book.specs.declared.record.Record.{Record}
-use Rattle.slip.specs.View.{view}
-use Rattle.slip.specs.declared.slip.Slip.{Slip}
 use Rattle.sheet.specs.Faults.{told}
 use Rattle.sheet.specs.ReadingOff.{read_off}
 use Rattle.sheet.specs.Taking.{take_line}
@@ -18,11 +16,6 @@ use Rattle.hut_lines.specs.declared.reading.Reading.{Reading}
 row_sure : (n : List ℕ) → row (map sure n) ≡ n
 row_sure [] = refl
 row_sure (v ∷ n) = ap (λ (vs : List ℕ). v ∷ vs) (row_sure n)
-
--- the book of the only slip
-pub only_slip : (slips : List Slip) (s : Slip) → length slips ≡ 1 → view (get_or slips 0 s) ≡ get_or (map view slips) 0 []
-only_slip [] s e = absurd (omega arith)
-only_slip (slip ∷ slips) s e = refl
 
 -- a line is not both taken and refused
 taken_refused : {X Y : Type 0} {r : Result X Y} {x : X} {y : Y} → r ≡ Ok x → r ≡ Err y → ⊥

@@ -20,15 +20,7 @@ fn answer_by<C: Checksum<SymbolField = Fe32>>(
 ) -> anyhow::Result<String> {
     match letter {
         "E" => write_elements(heap, Engine::<C>::of_row(row).residue()),
-        "S" => {
-            let checks = seal::<C>(row);
-            let checks: Vec<Fe32> = checks
-                .iter()
-                .take(C::checksum_length())
-                .copied()
-                .collect(heap)?;
-            write_elements(heap, checks.as_slice())
-        }
+        "S" => write_elements(heap, seal::<C>(row).symbols()),
         _ => Err(anyhow!("an unknown command")),
     }
 }

@@ -2,7 +2,6 @@
 ghost use Rattle.std.specs.Prelude.{◌≡◌, length};
 ghost use Rattle.sheet.specs.Sealed.{sealed_line, sealed_row};
 ghost use Rattle.book.specs.Book.{row};
-ghost use Rattle.slip.specs.View.{view};
 
 use crate::fault::LineFault;
 use crate::groups::write_groups;
@@ -30,11 +29,9 @@ pub fn seal_line(line: &[u8]) -> Result<[u8; 14], LineFault>
 
 // The row of a slip that holds a boat and a time, sealed: the code has room for it.
 fn sealed_row(slip: &mut Slip) -> [u8; 12]
-    requires { length (view slip.old) ≡ 8 }
-    ensures { result ≡ sealed_row (row (view slip.old)) }
+    requires { length slip.old ≡ 8 }
+    ensures { result ≡ sealed_row (row slip.old) }
 {
     slip.seal::<Finish>().unwrap();
-    let mut sealed = [0; 12];
-    sealed.copy_from_slice(slip.symbols());
-    sealed
+    slip.symbols().try_into().unwrap()
 }

@@ -1,5 +1,5 @@
 // A slip: the symbols of a row as they come in, in fixed memory.
-ghost use Rattle.std.specs.Prelude.{◌≡◌, ℕ, ◌<◌, ◌≤◌, length, slice_index};
+use std::marker::Model;
 
 pub mod appending;
 pub mod calls;
@@ -7,13 +7,23 @@ pub mod readers;
 pub mod sealing;
 
 /// A row in the making: up to 89 symbols, each below 32, and for each place whether its symbol is doubted.
+// Two arrays side by side, since each is lent as a slice, by `symbols` and by `marks`, and there is no heap to copy one to.
 #[derive(Drop)]
 pub struct Slip {
     symbols: [u8; 89],
     doubted: [bool; 89],
     len: usize,
-    ghost all_symbols: { length symbols ≡ 89 },
-    ghost all_marks: { length doubted ≡ 89 },
-    ghost room: { len ≤ 89 },
-    ghost below: { (k : ℕ) → slice_index symbols k < 32 },
+}
+
+// Clauses see the book that the slip holds.
+impl Model for Slip {
+    ghost use Rattle.book.specs.Book.{Book};
+
+    ghost Value = { Book };
+
+    ghost use Rattle.slip.specs.View.{book_of, Filled};
+
+    ghost view = { book_of };
+
+    ghost invariant = { Filled };
 }

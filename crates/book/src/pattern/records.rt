@@ -1,30 +1,41 @@
 // The records of a pattern, one after another.
-ghost use Rattle.std.specs.Prelude.{◌≡◌, []};
-ghost use Rattle.book.specs.Patterns.{held, Pushed};
+ghost use Rattle.std.specs.Prelude.{◌≡◌, [], cond, length, Some, None, nat_le};
+ghost use Rattle.book.specs.Patterns.{Pushed};
 
 use super::Pattern;
-use crate::record::Record;
+use crate::record::{BLANK, Record};
 
 impl Pattern {
     /// A pattern with no records.
     pub fn new() -> Pattern
-        ensures { held result ≡ [] }
+        ensures { result ≡ [] }
     {
         Pattern {
-            records: [Record {
-                place: 0,
-                change: 0,
-            }; 16],
+            records: [BLANK; 16],
             len: 0,
         }
     }
 
+    /// A pattern of some records, none where there are more than sixteen.
+    pub fn from_slice(records: &[Record]) -> Option<Pattern>
+        ensures { result ≡ cond (nat_le (length records.now) 16) (Some records.now) None }
+    {
+        if records.len() > 16 {
+            return None;
+        }
+        let mut memory = [BLANK; 16];
+        memory[..records.len()].copy_from_slice(records);
+        Some(Pattern {
+            records: memory,
+            len: records.len(),
+        })
+    }
+
     /// The records, in the order in which they came.
     pub fn records(&self) -> &[Record]
-        ensures { result.now ≡ held self.now }
+        ensures { result.now ≡ self.now }
     {
-        let records = &self.records[..];
-        &records[0..self.len]
+        &self.records[..self.len]
     }
 
     /// One record more; none, and nothing changed, where there are sixteen.

@@ -1,7 +1,6 @@
 // What is done to a slip, but for sealing it.
 ghost use Rattle.std.specs.Prelude.{◌≡◌};
 ghost use Rattle.book.specs.Book.{answer, after, write, blank, doubt, fresh};
-ghost use Rattle.slip.specs.View.{view};
 
 use super::Slip;
 use book::slip_fault::SlipFault;
@@ -9,7 +8,7 @@ use book::slip_fault::SlipFault;
 impl Slip {
     /// A fresh slip, which holds nothing.
     pub fn new() -> Slip
-        ensures { view result ≡ fresh }
+        ensures { result ≡ fresh }
     {
         Slip {
             symbols: [0; 89],
@@ -19,9 +18,10 @@ impl Slip {
     }
 
     /// Appends a symbol, undoubted.
+    #[tactic(auto, using(crate::proofs::Memory::steps))]
     pub fn write(&mut self, v: u8) -> Result<(), SlipFault>
-        ensures answer { result ≡ answer (write v (view self.old)) }
-        ensures book { view self.new ≡ after (view self.old) (write v (view self.old)) }
+        ensures answer { result ≡ answer (write v self.old) }
+        ensures book { self.new ≡ after self.old (write v self.old) }
     {
         if v > 31 {
             return Err(SlipFault::Symbol);
@@ -34,9 +34,10 @@ impl Slip {
     }
 
     /// Appends a place whose symbol was not understood: 0, doubted.
+    #[tactic(auto, using(crate::proofs::Memory::steps))]
     pub fn blank(&mut self) -> Result<(), SlipFault>
-        ensures answer { result ≡ answer (blank (view self.old)) }
-        ensures book { view self.new ≡ after (view self.old) (blank (view self.old)) }
+        ensures answer { result ≡ answer (blank self.old) }
+        ensures book { self.new ≡ after self.old (blank self.old) }
     {
         if self.len >= 89 {
             return Err(SlipFault::Full);
@@ -46,9 +47,10 @@ impl Slip {
     }
 
     /// Marks a place as doubted. A place that is doubted already stays so.
+    #[tactic(auto, using(crate::proofs::Memory::steps))]
     pub fn doubt(&mut self, place: usize) -> Result<(), SlipFault>
-        ensures answer { result ≡ answer (doubt place (view self.old)) }
-        ensures book { view self.new ≡ after (view self.old) (doubt place (view self.old)) }
+        ensures answer { result ≡ answer (doubt place self.old) }
+        ensures book { self.new ≡ after self.old (doubt place self.old) }
     {
         if place >= self.len {
             return Err(SlipFault::Absent(place));
@@ -59,7 +61,7 @@ impl Slip {
 
     /// Empties the slip.
     pub fn wipe(&mut self)
-        ensures { view self.new ≡ fresh }
+        ensures { self.new ≡ fresh }
     {
         self.len = 0;
     }

@@ -1,11 +1,11 @@
-use Rattle.std.proofs.Common.{true, ap, ◌∙◌}
+use Rattle.std.proofs.Common.{true, ap, ◌∙◌, rules}
+use Rattle.std.proofs.lemmas.List.{get_or_default}
 use Rattle.std.proofs.lemmas.Result.{err_from_is_err_and}
-use Rattle.book.specs.Book.{row}
-use Rattle.slip.specs.View.{view}
+use Rattle.book.specs.Book.{fresh, row}
 use Rattle.sheet.specs.Taking.{take_line}
 use Rattle.sheet.proofs.BytesTaken.{accepted, refused}
 use Rattle.hut_lines.specs.Shown.{finish_rows, not_mended}
-use Rattle.hut_lines.proofs.Saying.{only, only_read, only_refused, only_slip, only_unread, settle_refused, settle_not_done}
+use Rattle.hut_lines.proofs.Saying.{only, only_read, only_refused, only_unread, settle_refused, settle_not_done}
 use Rattle.hut_lines.proofs.lines.finish.Goals as goal
 
 pub returns-in_err-take_line : goal.returns-in_err-take_line
@@ -14,36 +14,42 @@ returns-in_err-take_line c =
     let p = err_from_is_err_and c.from_residual.result c.from_residual.ensures.1 in
     rw (p.1, p.2) (only_refused finish_rows line _ (refused (take_line true line) _ c.in_err-take_line.ensures.answer))
 
-pub returns-in-Refused : goal.returns-in-Refused
-returns-in-Refused c =
+pub returns-in_err-listing : goal.returns-in_err-listing
+returns-in_err-listing c =
     let line = c.args.line.now in
-    let b = view c.take_line.new.slip in
+    let b = c.take_line.new.slip in
     let told = c.in_ok-take_line.ensures in
     let taken = accepted (take_line true line) b told.answer told.book in
-    let settled = c.in-Refused.ensures in
-    only finish_rows settled.decided line b taken _ (not_mended taken (settle_refused settled.follows))
+    let settled = c.in_err-listing.ensures in
+    let p = err_from_is_err_and c.from_residual-in_err-listing.result c.from_residual-in_err-listing.ensures.1 in
+    rw (p.1, p.2) (only finish_rows settled.decided line b taken _ (not_mended taken (settle_refused settled.follows)))
 
 pub unreachable-requires : goal.unreachable-requires
-unreachable-requires c = settle_not_done c.in-Done.ensures.follows
+unreachable-requires c =
+    let settled = c.in_ok-listing.ensures in
+    let none_listed = rw c.in_default.is at settled.follows in
+    settle_not_done none_listed
 
 pub returns-in_err-sail : goal.returns-in_err-sail
 returns-in_err-sail c =
     let line = c.args.line.now in
-    let b = view c.take_line.new.slip in
+    let b = c.take_line.new.slip in
     let told = c.in_ok-take_line.ensures in
     let taken = accepted (take_line true line) b told.answer told.book in
-    let settled = c.in-Listed.ensures in
-    let is_row = c.symbols.ensures.row ∙ ap row (only_slip c.settle.new.slips _ c.settle.array_long) in
+    let settled = c.in_ok-listing.ensures in
+    let listed = rw c.in-Listed.is at settled.follows in
+    let is_row = c.symbols.ensures.row ∙ ap row (get_or_default c.settle.new.slips 0 _ fresh (search rules)) in
     let p = err_from_is_err_and c.from_residual-in_err-sail.result c.from_residual-in_err-sail.ensures.1 in
-    rw (p.1, p.2) (only_unread finish_rows settled.decided line b taken settled.follows _ is_row _ c.in_err-sail.ensures)
+    rw (p.1, p.2) (only_unread finish_rows settled.decided line b taken listed _ is_row _ c.in_err-sail.ensures)
 
 pub returns : goal.returns
 returns c =
     let line = c.args.line.now in
-    let b = view c.take_line.new.slip in
+    let b = c.take_line.new.slip in
     let told = c.in_ok-take_line.ensures in
     let taken = accepted (take_line true line) b told.answer told.book in
-    let settled = c.in-Listed.ensures in
-    let is_row = c.symbols.ensures.row ∙ ap row (only_slip c.settle.new.slips _ c.settle.array_long) in
+    let settled = c.in_ok-listing.ensures in
+    let listed = rw c.in-Listed.is at settled.follows in
+    let is_row = c.symbols.ensures.row ∙ ap row (get_or_default c.settle.new.slips 0 _ fresh (search rules)) in
     rw c.nonzero.ensures
-    (only_read finish_rows settled.decided line b taken settled.follows _ is_row _ _ c.in_ok-sail.ensures)
+    (only_read finish_rows settled.decided line b taken listed _ is_row _ _ c.in_ok-sail.ensures)

@@ -1,7 +1,5 @@
-use Rattle.std.proofs.Common.{◌≡◌, ◌<◌, map, length, arith, rules}
-use Rattle.std.proofs.lemmas.List.{length-map}
+use Rattle.std.proofs.Common.{◌≡◌, ◌<◌, length, arith, rules}
 use Rattle.script.specs.declared.script.Ask.TheVariants.{Settle}
-use Rattle.slip.specs.View.{view}
 use Rattle.hut_lines.specs.Shown.{finish_rows}
 use Rattle.hut_lines.proofs.OneTurn.{one_turn}
 use Rattle.hut_lines.proofs.lines.settle.Goals as goal
@@ -11,9 +9,8 @@ returns c =
     let slips = c.args.slips.now in
     let one : length slips ≡ 1 = search rules in
     let one-reply : length c.run.new.replies ≡ 1 = search rules in
-    let same = length-map slips view in
-    let some : 0 < length (map view slips) = omega arith in
+    let some : 0 < length slips = omega arith in
     record {
       follows = one_turn finish_rows _ _ c.run.new.replies _ one-reply (c.run.ensures.stories 0 some);
-      decided = λ b. c.run.ensures.decided b (Settle (record { code = record {} }) 16 216);
+      decided = λ b. c.run.ensures.decided b (Settle (record { code = record {} }) (record { records = 16; working = 216 }));
     }

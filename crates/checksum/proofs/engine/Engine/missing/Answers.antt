@@ -1,42 +1,45 @@
-use Rattle.std.proofs.Common.{◌≡◌, ℕ, ◌-◌, ◌<◌, ◌≤◌, length, get_or, set, replicate, sym, ap, ◌∙◌, ap₂, arith}
+use Rattle.std.proofs.Common.{◌≡◌, ◌<◌, length, take, drop, reverse, ap, ◌∙◌, arith}
+use Rattle.std.proofs.lemmas.List.{length-take-le, length-reverse, take_at}
 use Rattle.algebra.specs.Code.{checks}
-use Rattle.algebra.specs.Poly.{coeff}
-use Rattle.checksum.proofs.Fills.{missing_more, missing_all}
+use Rattle.algebra.specs.Poly.{poly_sub}
+use Rattle.algebra.proofs.Poly.{length_poly_sub}
+use Rattle.checksum.proofs.Replaced.{replaced_all, coeff_left, difference_more}
 use Rattle.checksum.proofs.engine.Engine.missing.Goals as goal
 
-pub loop-i-init : goal.loop-i-init
-loop-i-init g c = ap (replicate 16) c.zero-symbols.ensures
-
-pub loop-i-preserved : goal.loop-i-preserved
-loop-i-preserved g c =
+pub loop-power-preserved : goal.loop-power-preserved
+loop-power-preserved g c =
     let F = g.C.SymbolField.Field.field in
     let code = g.C.Checksum.code in
     let lawful = c.laws.ensures.lawful in
-    let entries = c.args.self.now.entries in
-    let i = c.loop-i.i in
-    let k = checks code in
-    let is-k = c.checksum_length-k.ensures in
     let few = lawful.few_checks in
-    let sixteen = c.args.self.now.sixteen in
-    let t = c.target_residue.result in
-    let e = c.index-self-power.result in
-    let room : k ≤ length entries = omega arith in
-    let below : i < k = omega arith in
-    let is-t : t ≡ coeff F code.target (k - 1 - i) = c.target_residue.ensures ∙ ap (λ (n : ℕ). coeff F code.target (n - 1 - i)) is-k in
-    let is-e : e ≡ get_or entries (k - 1 - i) e = c.index-self-power.is ∙ ap (λ (n : ℕ). get_or entries (n - 1 - i) e) is-k in
-    let new : c.add.result ≡ F.add t (F.neg e) = c.add.ensures ∙ ap (F.add t) (c.neg.ensures ∙ ap F.neg (sym c.index-self-power.is)) in
-    ap₂ (λ xs x. set xs i x) c.loop-i.invariant new
-    ∙ missing_more F code.target entries k few lawful.target_length room i t e below is-t is-e
+    let as-target = lawful.target_length in
+    let is-k = c.checksum_length.ensures in
+    let old = take c.checksum_length.result c.self.inside.entries in
+    let new = poly_sub F code.target old in
+    let i = c.loop-power.power in
+    let x = c.index-residue-power.result in
+    let many = length-take-le c.checksum_length.result c.self.inside.entries (omega (arith, c.self.invariant)) in
+    let long : length new ≡ length old = length_poly_sub F code.target old (omega arith) ∙ omega arith in
+    let here : i < length old = omega arith in
+    let left = coeff_left F code.target old old long i here c.loop-power.residue c.loop-power.invariant x in
+    difference_more F code.target old old long i here c.loop-power.residue c.loop-power.invariant c.difference.result _ _ c.difference.ensures c.target_residue.ensures left
 
 pub returns : goal.returns
 returns g c =
     let F = g.C.SymbolField.Field.field in
     let code = g.C.Checksum.code in
     let lawful = c.laws.ensures.lawful in
-    let entries = c.args.self.now.entries in
-    let is-k = c.checksum_length-k.ensures in
     let few = lawful.few_checks in
-    let sixteen = c.args.self.now.sixteen in
-    let room : checks code ≤ length entries = omega arith in
-    let end : c.loop-i.i ≡ checks code = omega arith in
-    c.loop-i.invariant ∙ missing_all F code.target entries (checks code) few lawful.target_length room c.loop-i.i end
+    let as-target = lawful.target_length in
+    let is-k = c.checksum_length.ensures in
+    let entries = c.self.inside.entries in
+    let old = take c.checksum_length.result entries in
+    let new = poly_sub F code.target old in
+    let many = length-take-le c.checksum_length.result entries (omega (arith, c.self.invariant)) in
+    let long : length new ≡ length old = length_poly_sub F code.target old (omega arith) ∙ omega arith in
+    let held : old ≡ c.args.self = ap (λ n. take n entries) is-k ∙ c.self.view_is in
+    let turned = length-reverse c.loop-power.residue in
+    take_at c.reverse.new.self (drop c.checksum_length.result entries) (checks code) (ap length c.reverse.ensures.after ∙ omega arith)
+    ∙ c.reverse.ensures.after
+    ∙ ap reverse (c.loop-power.invariant ∙ replaced_all new old long c.loop-power.power c.loop-power-test.false)
+    ∙ ap (λ r. reverse (poly_sub F code.target r)) held

@@ -1,11 +1,9 @@
-use Rattle.std.proofs.Common.{◌≡◌, reverse}
+use Rattle.std.proofs.Common.{◌≡◌, ◌++◌, take, drop}
 use Rattle.algebra.specs.Poly.{poly_sub}
-use Rattle.checksum.specs.Engine.{held}
-use Rattle.checksum.proofs.Fills.{filled}
 use Rattle.checksum.proofs.engine.Engine.missing.Given as goal
 
-abbrev pub invariant-loop-i : goal.invariant-loop-i
-invariant-loop-i g l =
+abbrev pub invariant-loop-power : goal.invariant-loop-power
+invariant-loop-power g l =
     let F = g.C.SymbolField.Field.field in
-    let code = g.C.Checksum.code in
-    l.symbols ≡ filled F l.i (reverse (poly_sub F code.target (held code l.self.entries)))
+    let target = g.C.Checksum.code.target in
+    l.residue ≡ take l.power (poly_sub F target l.initial.residue) ++ drop l.power l.initial.residue

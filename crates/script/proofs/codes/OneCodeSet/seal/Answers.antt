@@ -1,6 +1,5 @@
 use Rattle.book.proofs.Numbers.{rows_sealed}
 use Rattle.book.specs.Book.{row}
-use Rattle.slip.specs.View.{view}
 use Rattle.slip.proofs.Below.{row_below}
 use Rattle.script.proofs.Answered.{sealed}
 use Rattle.script.proofs.codes.OneCodeSet.seal.Goals as goal
@@ -12,5 +11,5 @@ returns g c =
     let code = g.C.Checksum.code in
     let slip = c.args.slip.now in
     let good = rows_sealed N s g.C.CorrectionField.Field.field g.C.CorrectionField.ExtensionField.lifted c.lift_laws.ensures code c.laws.ensures.lawful
-    (row (view slip)) (row_below N.size c.laws.ensures.alphabet slip) in
-    sealed N s code (view slip) _ _ good c.seal.ensures.answer c.seal.ensures.book
+    (row slip) (row_below N.size c.laws.ensures.alphabet slip c.seal.ensures.holdable) in
+    sealed N s code slip _ _ good c.seal.ensures.answer c.seal.ensures.book

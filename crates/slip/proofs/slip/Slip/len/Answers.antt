@@ -1,6 +1,5 @@
-use Rattle.std.proofs.Common.{sym}
-use Rattle.slip.proofs.Places.{length_view}
+use Rattle.slip.proofs.Memory.{can_hold}
 use Rattle.slip.proofs.slip.Slip.len.Goals as goal
 
-pub returns : goal.returns
-returns c = sym (length_view c.args.self.now)
+pub returns-clause-holdable : goal.returns-clause-holdable
+returns-clause-holdable c = can_hold c.self.inside c.args.self.now c.self.invariant c.self.view_is
