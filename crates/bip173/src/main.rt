@@ -44,7 +44,7 @@ fn read_string(heap: Global, text: &str) -> anyhow::Result<Vec<Fe32>> {
     expand(&mut row, part)?;
     for byte in characters.bytes() {
         match read_character(byte) {
-            Character::Symbol(number) => row.push(symbol(number)?)?,
+            Some(Character::Symbol(number)) => row.push(symbol(number)?)?,
             _ => return Err(anyhow!("a data character outside the set")),
         }
     }

@@ -5,7 +5,8 @@
 --   write, blank, doubt   the book after each call, or why the call is refused
 --   answer, after  what a call answers, and the book that it leaves: a refusal changes nothing
 --   symbol_at, doubted_at, doubts   what is read from a book
-use Rattle.std.specs.Prelude.{ℕ, zero, suc, ◌+◌, Bool, true, false, cond, List, [], ◌∷◌, ◌++◌, map, length, Some, None, Ok, Err, Option, Result, nat_le, nat_lt}
+use Rattle.std.specs.Prelude.{ℕ, zero, suc, Bool, true, false, cond, List, [], ◌∷◌, ◌++◌, map, length, Ok, Err, Option, Result, count_by, nat_le, nat_lt, slice_index_or}
+use Rattle.std.specs.List.{slice_get}
 use Rattle.algebra.specs.Rows as rows
 use Rattle.book.specs.declared.slip_fault.SlipFault.{SlipFault}
 use Rattle.book.specs.declared.slip_fault.SlipFault.TheVariants.{Symbol, Full, Absent}
@@ -57,19 +58,14 @@ after b (Ok next) = next
 after b (Err _) = b
 
 abbrev pub symbol_at : ℕ → Book → Option ℕ
-symbol_at place [] = None
-symbol_at zero (p ∷ b) = Some p.symbol
-symbol_at (suc place) (p ∷ b) = symbol_at place b
+symbol_at place b = slice_get (row b) place
 
 abbrev pub doubted_at : ℕ → Book → Bool
-doubted_at place [] = false
-doubted_at zero (p ∷ b) = p.doubted
-doubted_at (suc place) (p ∷ b) = doubted_at place b
+doubted_at place b = slice_index_or (marks b) place false
 
 -- how many are true
 abbrev pub trues : List Bool → ℕ
-trues [] = 0
-trues (b ∷ bs) = cond b 1 0 + trues bs
+trues flags = count_by (λ flag. flag) flags
 
 abbrev pub doubts : Book → ℕ
 doubts b = trues (marks b)

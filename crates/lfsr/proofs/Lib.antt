@@ -1,4 +1,4 @@
 pub mod Grown
-pub mod Inverses
 pub mod Judged
+pub mod Shifted
 pub mod Steps

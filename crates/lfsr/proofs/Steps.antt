@@ -1,5 +1,5 @@
 -- Massey's steps on the lists that the code holds. Assumes nothing.
-use Rattle.std.proofs.Common.{◌≡◌, ℕ, zero, suc, ◌+◌, ◌-◌, ◌*◌, ◌<◌, ◌≤◌, max, List, [], ◌∷◌, ◌++◌, length, take, drop, set, sym, refl, ap, ◌∙◌, subst, ap₂, add-one, arith}
+use Rattle.std.proofs.Common.{◌≡◌, ℕ, ◌+◌, ◌-◌, ◌*◌, ◌<◌, ◌≤◌, max, List, [], ◌∷◌, ◌++◌, length, take, drop, set, sym, refl, ap, ◌∙◌, subst, ap₂, add-one, arith}
 use native.Mathlib.Decide.{dec_lt}
 use Rattle.std.proofs.lemmas.List.{take_at, drop_at, drop-drop}
 use Rattle.algebra.specs.Field.{FieldOn}
@@ -12,13 +12,6 @@ use Rattle.algebra.proofs.Updates.{length_change}
 
 module _ {A : Type 0} (F : FieldOn A) where
   module _ (N : ℕ) (st : State A) (d : A) (z : Dec (d ≡ F.𝟘)) (f : Dec (N < 2 * st.L)) where
-    turn_right : d ≡ F.𝟘 → turn F N st d z f ≡ record { conn = st.conn; L = st.L; old = st.old; old_d = st.old_d; x = st.x + 1 }
-    turn_right h = by z f
-      where
-        by : (z : Dec (d ≡ F.𝟘)) (f : Dec (N < 2 * st.L)) → turn F N st d z f ≡ record { conn = st.conn; L = st.L; old = st.old; old_d = st.old_d; x = st.x + 1 }
-        by (yes e) f = refl
-        by (no e) f = absurd (e h)
-
     turn_long : ¬ (d ≡ F.𝟘) → N < 2 * st.L → turn F N st d z f ≡ record { conn = changed F st d; L = st.L; old = st.old; old_d = st.old_d; x = st.x + 1 }
     turn_long h k = by z f
       where
@@ -92,12 +85,6 @@ module _ {A : Type 0} (F : FieldOn A) where
         is_d : r ≡ d
         is_d = e ∙ ap (λ l. times F l (coeff F s) n) front_is
 
-        pub stays : r ≡ F.𝟘 → Holds next a conn w len ol (x + 1) inverse
-        stays z =
-            let q : next ≡ record { conn = st.conn; L = st.L; old = st.old; old_d = st.old_d; x = st.x + 1 } = next_is ∙ turn_right n st d (F.discrete d F.𝟘) (dec_lt n (2 * st.L)) (sym is_d ∙ z) in
-            subst (λ t. Holds t a conn w len ol (x + 1) inverse) (sym q)
-            (record { len_is = h.len_is; old_len_is = h.old_len_is; conn_is = h.conn_is; old_is = h.old_is; inverse_is = h.inverse_is; x_is = ap (λ k. k + 1) h.x_is })
-
         -- it is not ZERO, and c is the multiple of the old list that is taken off
         module _ (z : ¬ (r ≡ F.𝟘)) (c : A) (k : c ≡ F.mul r inverse) where
           changed_is : change F (take len conn) c x (take ol w) ≡ changed F st d
@@ -164,9 +151,3 @@ module _ {A : Type 0} (F : FieldOn A) where
   start s (a ∷ ys) (w ∷ ws) u v y h k e1 e2 e3 =
       kept s (u ∷ ys) (u ∷ ys) (v ∷ ws) 0 1 1 1 y
       (record { len_is = refl; old_len_is = refl; conn_is = ap (λ t. t ∷ ys) e1; old_is = ap (λ t. t ∷ []) e2; inverse_is = e3 ∙ inv_unique F F.𝟙 F.𝟙 (mul_one F F.𝟙); x_is = refl })
-
-  -- what lies past the first entry is as it was lent
-  pub past_first : (a : List A) (u : A) (k : ℕ) → 0 < k → drop k (set a 0 u) ≡ drop k a
-  past_first [] u k h = refl
-  past_first (a ∷ ys) u zero h = absurd (omega arith)
-  past_first (a ∷ ys) u (suc k) h = refl

@@ -1,5 +1,5 @@
-// Shortest linear feedback shift registers, by Massey's six steps. The connection list grows at the front of the answer;
-// the list before the last growth is at the front of a second one, behind it a copy while the two change places.
+// Shortest linear feedback shift registers, by Massey's six steps. The connection list grows at the front of the answer,
+// and the list before the last growth is at the front of another; a third has the copy while the two change places.
 ghost use Rattle.std.specs.Prelude.{◌≡◌, ◌+◌, ◌*◌, ◌<◌, ◌≤◌, ◌++◌, length, take, drop};
 ghost use Rattle.algebra.specs.Poly.{coeff};
 ghost use Rattle.algebra.specs.Register.{change, register, Shortest};
@@ -11,78 +11,56 @@ use fieldvec::fault::ListFault;
 use fieldvec::fieldvec::clear;
 use products::products::product_term;
 
-// The front of a list becomes another.
-fn put_front<F: Field>(to: &mut [F], from: &[F])
-    requires { length from.now ≤ length to.old }
-    ensures { to.new ≡ from.now ++ drop (length from.now) to.old }
-{
-    for i in 0..from.len() {
-        to[i] = from[i];
-    }
-}
-
-// The k entries from m on become the first k.
-fn move_down<F: Field>(w: &mut [F], m: usize, k: usize)
-    requires front { k ≤ m }
-    requires room { m + k ≤ length w.old }
-    ensures { w.new ≡ take k (drop m w.old) ++ drop k w.old }
-{
-    for i in 0..k {
-        w[i] = w[m + i];
-    }
-}
-
 // Takes c times the old list, moved up by x, off the connection list.
 fn subtract_shifted<F: Field>(conn: &mut [F], old: &[F], c: F, x: usize)
     requires { length old.now + x ≤ length conn.old }
     ensures { conn.new ≡ change F.field conn.old c x old.now }
 {
-    for i in 0..old.len() {
-        conn[i + x] = difference(conn[i + x], c.mul(old[i]));
+    // No zip with the old list: of a zip over iter_mut a proof does not know what was written.
+    for (i, entry) in conn[x..x + old.len()].iter_mut().enumerate() {
+        *entry = difference(*entry, c.mul(old[i]));
     }
 }
 
-// Step 4: the connection list is corrected at its length.
-fn adjust<F: Field>(conn: &mut [F], old: &[F], len: usize, old_len: usize, c: F, x: usize)
-    requires list { len ≤ length conn.old }
-    requires older { old_len ≤ length old.now }
-    requires within { old_len + x ≤ len }
-    ensures { conn.new ≡ change F.field (take len conn.old) c x (take old_len old.now) ++ drop len conn.old }
-{
-    subtract_shifted(&mut conn[..len], &old[..old_len], c, x);
-}
-
-// Step 5: it is corrected and grows, and as it was it becomes the old one.
-fn grow<F: Field>(conn: &mut [F], w: &mut [F], m: usize, len: usize, old_len: usize, c: F, x: usize)
+// Step 5: the connection list is corrected and grows, and as it was it becomes the old one.
+fn grow<F: Field>(
+    conn: &mut [F],
+    old: &mut [F],
+    spare: &mut [F],
+    len: usize,
+    old_len: usize,
+    c: F,
+    x: usize,
+)
     requires grows { len ≤ old_len + x }
-    requires within { old_len + x ≤ m }
-    requires list { m ≤ length conn.old }
-    requires room { m + m ≤ length w.old }
-    ensures list { conn.new ≡ change F.field (take len conn.old) c x (take old_len w.old) ++ drop (old_len + x) conn.old }
-    ensures old { take len w.new ≡ take len conn.old }
+    requires list { old_len + x ≤ length conn.old }
+    requires older { old_len ≤ length old.old }
+    requires kept { len ≤ length old.old }
+    requires room { len ≤ length spare.old }
+    ensures list { conn.new ≡ change F.field (take len conn.old) c x (take old_len old.old) ++ drop (old_len + x) conn.old }
+    ensures old { take len old.new ≡ take len conn.old }
 {
-    put_front(&mut w[m..], &conn[..len]);
+    spare[..len].copy_from_slice(&conn[..len]);
     clear(&mut conn[len..old_len + x]);
-    subtract_shifted(&mut conn[..old_len + x], &w[..old_len], c, x);
-    move_down(w, m, len);
+    subtract_shifted(&mut conn[..old_len + x], &old[..old_len], c, x);
+    old[..len].copy_from_slice(&spare[..len]);
 }
 
 // The six steps over the terms s, of which there may be none; it answers the connection list's length.
-pub(crate) fn run<F: Field>(s: &[F], conn: &mut [F], w: &mut [F]) -> usize
+fn run<F: Field>(s: &[F], conn: &mut [F], old: &mut [F], spare: &mut [F]) -> usize
     requires list { length s.now < length conn.old }
-    requires room { length s.now + length s.now + 2 ≤ length w.old }
+    requires older { length s.now < length old.old }
+    requires room { length s.now < length spare.old }
     ensures size { result ≡ length (connection F.field s.now) }
     ensures list { conn.new ≡ connection F.field s.now ++ drop result conn.old }
-    ensures some { 0 < result }
-    ensures short { result ≤ length s.now + 1 }
 {
-    let m = s.len() + 1;
     conn[0] = F::one();
-    w[0] = F::one();
+    old[0] = F::one();
     let mut len = 1;
     let mut old_len = 1;
     let mut old_inverse = F::one();
     let mut x = 1;
+    // A discrepancy reads all the terms up to its own, so that an iterator over them would not serve.
     for n in 0..s.len() {
         let d = product_term(&conn[..len], s, n);
         // Step 3: a discrepancy without an inverse is ZERO.
@@ -92,14 +70,13 @@ pub(crate) fn run<F: Field>(s: &[F], conn: &mut [F], w: &mut [F]) -> usize
         };
         let c = d.mul(old_inverse);
         if old_len + x <= len {
-            adjust(conn, w, len, old_len, c, x);
+            // Step 4: the connection list is corrected at its length.
+            subtract_shifted(&mut conn[..len], &old[..old_len], c, x);
             x += 1;
             continue;
         }
-        grow(conn, w, m, len, old_len, c, x);
-        let grown = old_len + x;
-        old_len = len;
-        len = grown;
+        grow(conn, old, spare, len, old_len, c, x);
+        (old_len, len) = (len, old_len + x);
         old_inverse = inverse;
         x = 1;
     }
@@ -123,13 +100,11 @@ pub fn berlekamp_massey<F: Field>(
     if n == 0 {
         return Err(ListFault::Empty);
     }
-    if answer.len() <= n {
+    if answer.len() <= n || second.len() / 2 <= n {
         return Err(ListFault::Short);
     }
-    if second.len() / 2 <= n {
-        return Err(ListFault::Short);
-    }
-    let len = run(s, answer, second);
+    let (old, spare) = second.split_at_mut(n + 1);
+    let len = run(s, answer, old, spare);
     clear(second);
     Ok(len)
 }

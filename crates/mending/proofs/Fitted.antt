@@ -1,6 +1,7 @@
 -- What the checker finds out is that a pattern fits. Assumes nothing.
-use Rattle.std.proofs.Common.{◌≡◌, ℕ, ◌+◌, ◌<◌, Bool, true, false, cond, eqb, List, [], ◌∷◌, map, length, Decides, sym, refl, ap, ◌∙◌, subst}
-use Rattle.algebra.specs.Code.{Code, bound, residue}
+use Rattle.std.proofs.Common.{◌≡◌, ℕ, ◌<◌, Bool, false, List, [], ◌∷◌, map, length, Decides, sym, refl, ap, ◌∙◌, subst}
+use Rattle.std.specs.List as std
+use Rattle.algebra.specs.Code.{Code, residue}
 use Rattle.algebra.specs.Field.{FieldOn, Numbers}
 use Rattle.algebra.specs.Series.{All, Mem}
 use Rattle.algebra.proofs.Members.{all_at, all_from, all_map}
@@ -11,8 +12,9 @@ use Rattle.book.specs.declared.record.Record.{Record}
 use Rattle.book.proofs.Fitting.{all_places}
 use Rattle.book.proofs.Numbers.{elements_sound, sound_elements}
 use Rattle.mending.specs.Checked.{Admits, Formed, Sensible}
-use Rattle.mending.specs.Lessened.{less, lessened, less_row}
-use Rattle.mending.proofs.Lessening.{subtracted_row}
+use Rattle.slip.specs.View.{Holdable}
+use Rattle.slip.proofs.Below.{row_below}
+use Rattle.mending.proofs.Lessening.{at_each, row_sure}
 
 module _ (b : Book) (nothing : ℕ) where
   all_admitted : (cs : List Record) → Sensible b nothing cs → All (Admits b nothing) cs
@@ -27,8 +29,11 @@ module _ (b : Book) (nothing : ℕ) where
   sensible [] d a = tt
   sensible (c ∷ cs) d a = (a.0, λ m. all_at (λ q. ¬ (c.place ≡ q)) (places cs) d.0 m refl, sensible cs d.1 a.1)
 
-  pub sensible_changes : (cs : List Record) → Sensible b nothing cs → All (λ c. c.change < 32) cs
-  sensible_changes cs s = all_map (Admits b nothing) (λ c. c.change < 32) (λ c a. a.symbol) cs (all_admitted cs s)
+  changes : (cs : List Record) → Sensible b nothing cs → All (λ c. c.change < 32) cs
+  changes cs s = all_map (Admits b nothing) (λ c. c.change < 32) (λ c a. a.symbol) cs (all_admitted cs s)
+
+  pub sensible_changes : (cs : List Record) → Sensible b nothing cs → std.All (λ c. c.change < 32) cs
+  sensible_changes cs s = at_each (λ c. c.change < 32) cs (changes cs s)
 
 module _ (C : Rows) (alphabet : C.size ≡ 32) (b : Book) (cs : List Record) where
   formed_fits : Formed b C.nothing C.bound cs → Sound C (subtracted C cs (row b)) → Fits C b cs
@@ -37,7 +42,7 @@ module _ (C : Rows) (alphabet : C.size ≡ 32) (b : Book) (cs : List Record) whe
       record {
         distinct = different b C.nothing cs f.sensible;
         on_slip = all_places (λ p. p < length b) cs (all_map (Admits b C.nothing) (λ c. c.place < length b) (λ c a. a.on_slip) cs admitted);
-        symbols = subst (λ (n : ℕ). All (λ c. c.change < n) cs) (sym alphabet) (sensible_changes b C.nothing cs f.sensible);
+        symbols = subst (λ (n : ℕ). All (λ c. c.change < n) cs) (sym alphabet) (changes b C.nothing cs f.sensible);
         doubted = f.covers;
         changed = all_map (Admits b C.nothing) (λ c. doubted_at c.place b ≡ false → ¬ (c.change ≡ C.nothing)) (λ c a. a.changed) cs admitted;
         within = f.within;
@@ -55,38 +60,19 @@ module _ (C : Rows) (alphabet : C.size ≡ 32) (b : Book) (cs : List Record) whe
       admitted [] x y z = tt
       admitted (d ∷ ds) x y z = (record { on_slip = x.0; symbol = subst (λ (n : ℕ). d.change < n) alphabet y.0; changed = z.0 }, admitted ds x.1 y.1 z.1)
 
-row_sure : (vs : List ℕ) → row (map sure vs) ≡ vs
-row_sure [] = refl
-row_sure (v ∷ vs) = ap (λ (ws : List ℕ). v ∷ ws) (row_sure vs)
+module _ {S E : Type 0} (N : Numbers S) (F : FieldOn S) (C : Code S E) (alphabet : N.size ≡ 32) (b : Book) (cs : List Record) where
+  abbrev rows : Rows
+  rows = rows_of N F C
 
-module _ {S E : Type 0} (N : Numbers S) (F : FieldOn S) (C : Code S E) where
-  lessened_below : (place : ℕ) (cs : List Record) (v : ℕ) → v < N.size → lessened (less N F) place cs v < N.size
-  lessened_below place [] v h = h
-  lessened_below place (c ∷ cs) v h = lessened_below place cs (cond (eqb c.place place) (less N F v c.change) v) (by (eqb c.place place))
-    where
-      by : (t : Bool) → cond t (less N F v c.change) v < N.size
-      by true = N.below (F.add (N.element v) (F.neg (N.element c.change)))
-      by false = h
+  pub not_formed : ¬ Formed b rows.nothing rows.bound cs → ¬ Fits rows b cs
+  not_formed never fits = never (fits_formed rows alphabet b cs fits)
 
-  row_below : (i : ℕ) (cs : List Record) (vs : List ℕ) → All (λ v. v < N.size) vs → All (λ v. v < N.size) (less_row (less N F) i cs vs)
-  row_below i cs [] h = tt
-  row_below i cs (v ∷ vs) h = (lessened_below i cs v h.0, row_below (i + 1) cs vs h.1)
-
-  module _ (alphabet : N.size ≡ 32) (b : Book) (cs : List Record) (nothing top : ℕ) (is-nothing : nothing ≡ N.number F.𝟘) (is_bound : top ≡ bound C) where
-    abbrev rows : Rows
-    rows = rows_of N F C
-
-    pub not_formed : ¬ Formed b nothing top cs → ¬ Fits rows b cs
-    not_formed never fits = never (subst (λ (n : ℕ). Formed b n top cs) (sym is-nothing) (subst (λ (n : ℕ). Formed b (N.number F.𝟘) n cs) (sym is_bound) (fits_formed rows alphabet b cs fits)))
-
-    -- the row of the mended book is sound exactly if the pattern fits
-    pub fits_decided : All (λ v. v < 32) (row b) → Formed b nothing top cs → (m : Book) → m ≡ map sure (less_row (less N F) 0 cs (row b)) → (held : List S) → held ≡ residue F C (map N.element (row m))
-        → (r : Bool) → Decides r (held ≡ C.target) → Decides r (Fits rows b cs)
-    fits_decided below formed m is_m held is_held_lem r d =
-        let n = subtracted rows cs (row b) in
-        let same : row m ≡ n = ap row is_m ∙ row_sure (less_row (less N F) 0 cs (row b)) ∙ sym (subtracted_row rows cs (row b)) in
-        let is-residue : held ≡ residue F C (map N.element n) = is_held_lem ∙ ap (λ (vs : List ℕ). residue F C (map N.element vs)) same in
-        let small : All (λ v. v < N.size) (row b) = subst (λ (k : ℕ). All (λ v. v < k) (row b)) (sym alphabet) below in
-        let low : All (λ v. v < N.size) n = subst (All (λ v. v < N.size)) (sym (subtracted_row rows cs (row b))) (row_below 0 cs (row b) small) in
-        let formed' : Formed b rows.nothing rows.bound cs = subst (λ (k : ℕ). Formed b k (bound C) cs) is-nothing (subst (λ (k : ℕ). Formed b nothing k cs) is_bound formed) in
-        (λ q. formed_fits rows alphabet b cs formed' (elements_sound N F C n low (sym is-residue ∙ d.0 q)), λ f. d.1 (is-residue ∙ sound_elements N F C n f.sound))
+  -- the row of the mended book is sound exactly if the pattern fits
+  pub fits_decided : Formed b rows.nothing rows.bound cs → (m : Book) → m ≡ map sure (subtracted rows cs (row b)) → Holdable m → (held : List S) → held ≡ residue F C (map N.element (row m))
+      → (r : Bool) → Decides r (held ≡ C.target) → Decides r (Fits rows b cs)
+  fits_decided formed m is_m holdable held is_held r d =
+      let n = subtracted rows cs (row b) in
+      let same : row m ≡ n = ap row is_m ∙ row_sure n in
+      let is-residue : held ≡ residue F C (map N.element n) = is_held ∙ ap (λ (vs : List ℕ). residue F C (map N.element vs)) same in
+      let low : All (λ v. v < N.size) n = subst (All (λ v. v < N.size)) same (row_below N.size alphabet m holdable) in
+      (λ q. formed_fits rows alphabet b cs formed (elements_sound N F C n low (sym is-residue ∙ d.0 q)), λ f. d.1 (is-residue ∙ sound_elements N F C n f.sound))

@@ -1,24 +1,16 @@
 -- What is found by a search for the near row. Assumes nothing.
---   first_fault   the first refusal that applies, by numbers alone
---   Finding       records that lead to the near row
---   Found         an answer of a search: such records, or why there are none
-use Rattle.std.specs.Prelude.{◌≡◌, ℕ, ◌+◌, ◌*◌, ◌<◌, ◌≤◌, List, [], ◌∷◌, length, None, Ok, Err, Option, Result, nat_le, nat_lt}
+--   Finding   records that lead to the near row
+--   Found     an answer of a search: such records, or why there are none
+use Rattle.std.specs.Prelude.{◌≡◌, ℕ, ◌<◌, ◌≤◌, List, length, None, Ok, Err, Result}
 use Rattle.algebra.specs.Series.{All}
 use Rattle.book.specs.Book.{Book, row}
-use Rattle.book.specs.Calls.{Mends, first_of, refused, unmendable}
+use Rattle.book.specs.Calls.{Mends, refused, unmendable}
 use Rattle.book.specs.CodeFaults.{told}
 use Rattle.book.specs.Codes.{Rows, Near}
 use Rattle.book.specs.Mending.{changes, subtracted}
 use Rattle.book.specs.declared.code_fault.CodeFault.{CodeFault}
-use Rattle.book.specs.declared.code_fault.CodeFault.TheVariants.{Short, Long, Records, Working, Doubts}
 use Rattle.book.specs.declared.record.Record.{Record}
-use Rattle.book.specs.Patterns.{held}
 use Rattle.book.specs.declared.pattern.Pattern.{Pattern}
-
--- of a row of `length` symbols, `doubts` of them doubted, and lists of r and w entries
-abbrev pub first_fault : (length doubts r w checks limit bound : ℕ) → Option CodeFault
-first_fault length doubts r w checks limit bound = first_of
-    ((nat_le length checks, Short) ∷ (nat_lt limit length, Long) ∷ (nat_lt r bound, Records) ∷ (nat_lt w (12 * (bound + 2)), Working) ∷ (nat_lt bound doubts, Doubts) ∷ [])
 
 pub record Finding (C : Rows) (r w : ℕ) (b : Book) (cs : List Record) : Type 0 where
   pub meant : List ℕ
@@ -30,5 +22,5 @@ pub record Finding (C : Rows) (r w : ℕ) (b : Book) (cs : List Record) : Type 0
   pub room : length cs ≤ r
 
 abbrev pub Found : Rows → ℕ → ℕ → Book → Result Pattern CodeFault → Type 0
-Found C r w b (Ok pattern) = Finding C r w b (held pattern)
+Found C r w b (Ok pattern) = Finding C r w b pattern
 Found C r w b (Err fault) = Mends C r w b (refused (told fault)) None

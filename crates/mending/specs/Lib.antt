@@ -1,4 +1,3 @@
 pub mod Answers
 pub mod Checked
 pub mod Found
-pub mod Lessened

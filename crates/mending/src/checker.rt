@@ -5,110 +5,89 @@ ghost use Rattle.book.specs.Codes.{rows_of};
 ghost use Rattle.book.specs.Mending.{places, elsewhere, Fits};
 ghost use Rattle.mending.specs.Checked.{Admits, Sensible, Covers, Formed};
 
-use crate::subtracting::{mended, number};
+use crate::subtracting::mended;
 use book::record::Record;
 use checksum::checksum::{Checksum, bound};
+use checksum::symbols::number;
 use field::field::Field;
 use slip::slip::Slip;
 
 /// Whether records are a pattern that fits the slip by a code.
+#[tactic(auto, using(checksum::proofs::Sizes::engine_fits))]
 pub fn fits<C: Checksum>(slip: &Slip, records: &[Record]) -> bool
     ensures { Decides result (Fits (rows_of C.SymbolField.Field.numbers C.SymbolField.Field.field C.Checksum.code) slip.now records.now) }
 {
     C::laws();
     C::SymbolField::small();
-    let nothing = number(C::SymbolField::zero());
-    if !formed(slip, records, nothing, bound::<C>()) {
-        return false;
-    }
-    mended::<C::SymbolField>(slip, records)
-        .engine::<C>()
-        .meets_target()
+    let proposal = Proposal { slip, records };
+    proposal.is_formed::<C>() && mended::<C>(slip, records).engine::<C>().meets_target()
 }
 
-// Whether the records are a pattern within the bound, whatever row they lead to.
-fn formed(slip: &Slip, records: &[Record], nothing: u8, bound: usize) -> bool
-    ensures { Decides result (Formed slip.now nothing bound records.now) }
-{
-    let doubts = slip.doubts();
-    if doubts > bound {
-        return false;
-    }
-    if elsewhere(slip, records) > (bound - doubts) / 2 {
-        return false;
-    }
-    if !sensible(slip, records, nothing) {
-        return false;
-    }
-    covers(slip, records)
+// Records that are proposed for a slip.
+#[derive(Clone, Copy)]
+struct Proposal<'a> {
+    slip: &'a Slip,
+    records: &'a [Record],
 }
 
-// Whether each record can be part of a pattern, and no place is named twice.
-fn sensible(slip: &Slip, records: &[Record], nothing: u8) -> bool
-    ensures { Decides result (Sensible slip.now nothing records.now) }
-{
-    for i in 0..records.len() {
-        if !admits(slip, records[i], nothing) {
-            return false;
-        }
-        if names(&records[i + 1..], records[i].place) {
-            return false;
-        }
+impl Proposal<'_> {
+    // Whether the records are a pattern within the bound, whatever row they lead to.
+    fn is_formed<C: Checksum>(&self) -> bool
+        ensures { let C = rows_of C.SymbolField.Field.numbers C.SymbolField.Field.field C.Checksum.code in Decides result (Formed self.now.slip.now C.nothing C.bound self.now.records.now) }
+    {
+        C::laws();
+        let bound = bound::<C>();
+        let doubts = self.slip.doubts();
+        doubts <= bound
+            && self.elsewhere() <= (bound - doubts) / 2
+            && self.is_sensible(number::<C>(C::SymbolField::zero()))
+            && self.covers()
     }
-    true
+
+    // How many records name undoubted places.
+    fn elsewhere(&self) -> usize
+        ensures { result ≡ elsewhere self.now.slip.now self.now.records.now }
+    {
+        self.records
+            .iter()
+            .filter(|record| !self.slip.is_doubted(record.place))
+            .count()
+    }
+
+    // Whether each record can be part of a pattern, and no place is named twice.
+    fn is_sensible(&self, nothing: u8) -> bool
+        ensures { Decides result (Sensible self.now.slip.now nothing self.now.records.now) }
+    {
+        let mut rest = self.records;
+        while let Some((record, later)) = rest.split_first() {
+            if !admits(self.slip, record, nothing) || names(later, record.place) {
+                return false;
+            }
+            rest = later;
+        }
+        true
+    }
+
+    // Whether each doubted place is named.
+    fn covers(&self) -> bool
+        ensures { Decides result (Covers self.now.slip.now self.now.records.now) }
+    {
+        (0..self.slip.len()).all(|place| !self.slip.is_doubted(place) || names(self.records, place))
+    }
 }
 
 // Whether a record names a place of the slip and a symbol, and changes something unless the place is doubted.
-fn admits(slip: &Slip, record: Record, nothing: u8) -> bool
-    ensures { Decides result (Admits slip.now nothing «record») }
+fn admits(slip: &Slip, record: &Record, nothing: u8) -> bool
+    ensures { Decides result (Admits slip.now nothing «record».now) }
 {
-    if record.place >= slip.len() {
-        return false;
-    }
-    if record.change >= 32 {
-        return false;
-    }
-    if slip.is_doubted(record.place) {
-        return true;
-    }
-    record.change != nothing
-}
-
-// Whether each doubted place is named.
-fn covers(slip: &Slip, records: &[Record]) -> bool
-    ensures { Decides result (Covers slip.now records.now) }
-{
-    for place in 0..slip.len() {
-        if slip.is_doubted(place) {
-            if !names(records, place) {
-                return false;
-            }
-        }
-    }
-    true
-}
-
-// How many records name undoubted places.
-fn elsewhere(slip: &Slip, records: &[Record]) -> usize
-    ensures { result ≡ elsewhere slip.now records.now }
-{
-    let mut n = 0;
-    for record in records {
-        if !slip.is_doubted(record.place) {
-            n += 1;
-        }
-    }
-    n
+    record.place < slip.len()
+        && record.change < 32
+        && (slip.is_doubted(record.place) || record.change != nothing)
 }
 
 // Whether a place is named.
 fn names(records: &[Record], place: usize) -> bool
     ensures { Decides result (Mem place (places records.now)) }
 {
-    for record in records {
-        if record.place == place {
-            return true;
-        }
-    }
-    false
+    records.iter().any(|record| record.place == place)
 }

@@ -1,19 +1,20 @@
 // Mending by a code: a search proposes records, the checker accepts them or not, and only then is anything told.
-ghost use Rattle.std.specs.Prelude.{◌≡◌, ◌≤◌, ◌++◌, length, drop};
-ghost use Rattle.book.specs.Calls.{Follows, solve, settle};
-ghost use Rattle.book.specs.Codes.{Rows, rows_of};
+ghost use Rattle.std.specs.Prelude.{◌≡◌, ◌≤◌, ◌++◌, ◌==◌, not, count_by, length, drop};
+ghost use Rattle.std.specs.Result.{result_err};
+ghost use Rattle.book.specs.Calls.{Follows, solve, settle, unmendable};
+ghost use Rattle.book.specs.Codes.{rows_of};
 ghost use Rattle.book.specs.Mending.{nonzero};
-ghost use Rattle.book.specs.Book.{doubts};
 ghost use Rattle.mending.specs.Answers.{told_list, written, cleared};
-ghost use Rattle.mending.specs.Found.{Found, first_fault};
+ghost use Rattle.mending.specs.Found.{Found};
 ghost use Rattle.slip.specs.View.{Holdable};
 
 use crate::checker::fits;
-use crate::subtracting::{mended, number};
+use crate::subtracting::mended;
 use book::code_fault::CodeFault;
 use book::pattern::Pattern;
 use book::record::Record;
 use checksum::checksum::{Checksum, bound};
+use checksum::symbols::number;
 use correction::correction::bch_errors;
 use field::field::{ExtensionField, Field};
 use slip::slip::Slip;
@@ -29,11 +30,8 @@ pub fn solve<C: Checksum>(
     ensures past { drop (written result) records.new ≡ drop (written result) records.old }
     ensures working { work.new ≡ cleared C.CorrectionField.Field.field result work.old }
 {
-    C::laws();
-    match find::<C>(slip, records.len(), work) {
-        Ok(pattern) => Ok(list(pattern.records(), records, number(C::SymbolField::zero()))),
-        Err(fault) => Err(fault),
-    }
+    let pattern = find::<C>(slip, records.len(), work)?;
+    Ok(list::<C>(&pattern, records))
 }
 
 /// Settle: as solve, and the slip then holds the near row, nothing doubted.
@@ -47,13 +45,9 @@ pub fn settle<C: Checksum>(
     ensures working { work.new ≡ cleared C.CorrectionField.Field.field result work.old }
 {
     C::laws();
-    match find::<C>(slip, records.len(), work) {
-        Ok(pattern) => {
-            *slip = mended::<C::SymbolField>(slip, pattern.records());
-            Ok(list(pattern.records(), records, number(C::SymbolField::zero())))
-        }
-        Err(fault) => Err(fault),
-    }
+    let pattern = find::<C>(slip, records.len(), work)?;
+    *slip = mended::<C>(slip, pattern.records());
+    Ok(list::<C>(&pattern, records))
 }
 
 // The records that lead to the near row. Where a row is near, its changes are proposed: a proposal that does not fit says
@@ -68,89 +62,59 @@ fn find<C: Checksum>(
 {
     C::laws();
     C::CorrectionField::lift_laws();
-    if let Some(fault) = first_fault(
-        slip,
-        records,
-        work.len(),
-        C::checksum_length(),
-        C::code_length(),
-        bound::<C>(),
-    ) {
-        return Err(fault);
-    }
-    match bch_errors::<C>(slip, work) {
-        Some(proposal) => {
-            if fits::<C>(slip, proposal.records()) {
-                Ok(proposal)
-            } else {
-                Err(CodeFault::Unfit)
-            }
-        }
-        None => Err(CodeFault::Unfit),
-    }
+    can_mend::<C>(slip, records, work.len())?;
+    bch_errors::<C>(slip, work)
+        .filter(|proposal| fits::<C>(slip, proposal.records()))
+        .ok_or(CodeFault::Unfit)
 }
 
-// Why a slip cannot be mended, whatever its symbols are: the lengths of the lent lists, and a code's numbers.
-fn first_fault(
-    slip: &Slip,
-    records: usize,
-    work: usize,
-    checks: usize,
-    limit: usize,
-    bound: usize,
-) -> Option<CodeFault>
-    requires { bound ≤ 16 }
-    ensures fault { result ≡ first_fault (length slip.now) (doubts slip.now) records work checks limit bound }
+// Whether a slip may be mended, whatever its symbols are, with lists of some lengths being lent, and if not, why.
+fn can_mend<C: Checksum>(slip: &Slip, records: usize, work: usize) -> Result<(), CodeFault>
+    ensures fault { result_err result ≡ unmendable (rows_of C.SymbolField.Field.numbers C.SymbolField.Field.field C.Checksum.code) records work slip.now }
     ensures holdable { Holdable slip.now }
 {
-    if slip.len() <= checks {
-        return Some(CodeFault::Short);
+    C::laws();
+    let bound = bound::<C>();
+    if slip.len() <= C::checksum_length() {
+        return Err(CodeFault::Short);
     }
-    if slip.len() > limit {
-        return Some(CodeFault::Long);
+    if slip.len() > C::code_length() {
+        return Err(CodeFault::Long);
     }
     if records < bound {
-        return Some(CodeFault::Records);
+        return Err(CodeFault::Records);
     }
     if work < 12 * (bound + 2) {
-        return Some(CodeFault::Working);
+        return Err(CodeFault::Working);
     }
     if slip.doubts() > bound {
-        return Some(CodeFault::Doubts);
+        return Err(CodeFault::Doubts);
     }
-    None
+    Ok(())
 }
 
-// Writes what was found at the front of the records, and answers how many they are and how many change something.
-fn list(found: &[Record], records: &mut [Record], nothing: u8) -> (usize, usize)
-    requires { length found.now ≤ length records.old }
-    ensures many { result.0 ≡ length found.now }
-    ensures changed { (C : Rows) → C.nothing ≡ nothing → result.1 ≡ nonzero C found.now }
-    ensures listed { records.new ≡ found.now ++ drop (length found.now) records.old }
+// Writes a pattern's records at the front of others, and answers how many they are and how many change something.
+fn list<C: Checksum>(pattern: &Pattern, records: &mut [Record]) -> (usize, usize)
+    requires { length pattern.now ≤ length records.old }
+    ensures many { result.0 ≡ length pattern.now }
+    ensures changed { result.1 ≡ nonzero (rows_of C.SymbolField.Field.numbers C.SymbolField.Field.field C.Checksum.code) pattern.now }
+    ensures listed { records.new ≡ pattern.now ++ drop (length pattern.now) records.old }
 {
-    write_front(found, records);
-    (found.len(), count_changes(found, nothing))
-}
-
-// Writes records at the front of others.
-fn write_front(found: &[Record], records: &mut [Record])
-    requires { length found.now ≤ length records.old }
-    ensures { records.new ≡ found.now ++ drop (length found.now) records.old }
-{
-    for i in 0..found.len() {
-        records[i] = found[i];
-    }
+    C::laws();
+    let found = pattern.records();
+    records[..found.len()].copy_from_slice(found);
+    (
+        found.len(),
+        count_changes(found, number::<C>(C::SymbolField::zero())),
+    )
 }
 
 // How many records change something.
 fn count_changes(records: &[Record], nothing: u8) -> usize
-    ensures { (C : Rows) → C.nothing ≡ nothing → result ≡ nonzero C records.now }
+    ensures { result ≡ count_by (λ c. not (c.change == nothing)) records.now }
 {
-    let mut n = 0;
-    for record in records {
-        if record.change != nothing {
-            n += 1;
-        }
-    }
-    n
+    records
+        .iter()
+        .filter(|record| record.change != nothing)
+        .count()
 }

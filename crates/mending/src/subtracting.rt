@@ -1,73 +1,64 @@
 // Changes subtracted from a slip's row.
-ghost use Rattle.std.specs.Prelude.{◌≡◌, ◌<◌, map};
-ghost use Rattle.algebra.specs.Series.{All};
+ghost use Rattle.std.specs.Prelude.{◌≡◌, ◌<◌, ◌≤◌, All, map, length};
 ghost use Rattle.book.specs.Book.{row, sure};
-ghost use Rattle.mending.specs.Lessened.{less, lessened, less_row};
+ghost use Rattle.book.specs.Codes.{rows_of};
+ghost use Rattle.book.specs.Mending.{subtracted};
 ghost use Rattle.slip.specs.View.{Holdable};
 
 use book::record::Record;
+use checksum::checksum::Checksum;
+use checksum::symbols::{element, number};
 use field::arithmetic::difference;
-use field::field::Field;
 use slip::slip::Slip;
 
 // A slip with the changes subtracted from the row, nothing doubted.
-pub(crate) fn mended<F: Field>(slip: &Slip, records: &[Record]) -> Slip
-    requires size { F.Field.numbers.size ≡ 32 }
-    requires symbols { All (λ c. c.change < 32) records.now }
-    ensures mended { result ≡ map sure (less_row (less F.Field.numbers F.Field.field) 0 records.now (row slip.now)) }
-    ensures holdable { Holdable slip.now }
+pub(crate) fn mended<C: Checksum>(slip: &Slip, records: &[Record]) -> Slip
+    requires { All (λ c. c.change < 32) records.now }
+    ensures mended { result ≡ map sure (subtracted (rows_of C.SymbolField.Field.numbers C.SymbolField.Field.field C.Checksum.code) records.now (row slip.now)) }
+    ensures holdable { Holdable result }
 {
-    let mut mended = Slip::new();
-    for (place, symbol) in slip.symbols().iter().enumerate() {
-        let _ = mended.write(lessened::<F>(*symbol, place, records));
-    }
-    mended
+    let mut memory = [0; 89];
+    let symbols = &mut memory[..slip.len()];
+    symbols.copy_from_slice(slip.symbols());
+    subtract::<C>(symbols, records);
+    undoubted(symbols)
 }
 
-// A symbol with the changes at its place subtracted.
-fn lessened<F: Field>(symbol: u8, place: usize, records: &[Record]) -> u8
-    requires size { F.Field.numbers.size ≡ 32 }
-    requires small { symbol < 32 }
-    requires symbols { All (λ c. c.change < 32) records.now }
-    ensures symbol { result ≡ lessened (less F.Field.numbers F.Field.field) place records.now symbol }
-    ensures below { result < 32 }
+// Subtracts each change from the symbol at its place.
+fn subtract<C: Checksum>(symbols: &mut [u8], records: &[Record])
+    requires small { All (λ v. v < 32) symbols.old }
+    requires changes { All (λ c. c.change < 32) records.now }
+    ensures subtracted { symbols.new ≡ subtracted (rows_of C.SymbolField.Field.numbers C.SymbolField.Field.field C.Checksum.code) records.now symbols.old }
+    ensures below { All (λ v. v < 32) symbols.new }
 {
-    let mut left = symbol;
     for record in records {
-        if record.place == place {
-            left = less::<F>(left, record.change);
+        if record.place < symbols.len() {
+            symbols[record.place] = less::<C>(symbols[record.place], record.change);
         }
     }
-    left
+}
+
+// A slip that holds a row, nothing doubted.
+fn undoubted(symbols: &[u8]) -> Slip
+    requires small { All (λ v. v < 32) symbols.now }
+    requires room { length symbols.now ≤ 89 }
+    ensures { result ≡ map sure symbols.now }
+{
+    let mut slip = Slip::new();
+    for symbol in symbols {
+        slip.write(*symbol).unwrap();
+    }
+    slip
 }
 
 // One symbol less another.
-fn less<F: Field>(x: u8, y: u8) -> u8
-    requires size { F.Field.numbers.size ≡ 32 }
+fn less<C: Checksum>(x: u8, y: u8) -> u8
     requires left { x < 32 }
     requires right { y < 32 }
-    ensures less { result ≡ less F.Field.numbers F.Field.field x y }
+    ensures less { result ≡ (rows_of C.SymbolField.Field.numbers C.SymbolField.Field.field C.Checksum.code).less x y }
     ensures below { result < 32 }
 {
-    number(difference(element::<F>(x), element::<F>(y)))
-}
-
-// The element that stands for a number of the alphabet.
-fn element<F: Field>(number: u8) -> F
-    requires { number < F.Field.numbers.size }
-    ensures { result ≡ F.Field.numbers.element number }
-{
-    match F::from_number(u16::from(number)) {
-        Some(element) => element,
-        None => unreachable(),
-    }
-}
-
-// The number of a symbol.
-pub(crate) fn number<F: Field>(element: F) -> u8
-    requires { F.Field.numbers.size ≡ 32 }
-    ensures number { result ≡ F.Field.numbers.number element }
-    ensures below { result < 32 }
-{
-    element.to_number() as u8
+    let x = element::<C>(x).unwrap();
+    let y = element::<C>(y).unwrap();
+    number::<C>(difference(x, y))
 }

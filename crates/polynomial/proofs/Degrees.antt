@@ -1,10 +1,17 @@
--- The degree of a list, looked for from the top. Assumes nothing.
-use Rattle.std.proofs.Common.{◌≡◌, ℕ, zero, suc, ◌-◌, ◌<◌, ◌≤◌, List, length, get_or, sym, refl, ap, ◌∙◌, arith}
-use Rattle.std.proofs.lemmas.List.{get_or_default}
-use Rattle.algebra.specs.Field.{FieldOn}
+-- The degree of a list, by what a search from its end finds. Assumes nothing.
+use Rattle.std.proofs.Common.{◌≡◌, ℕ, zero, suc, ◌-◌, ◌<◌, ◌≤◌, Bool, true, false, Decides, List, [], ◌∷◌, length, Option, None, Some, MatchOption, unwrap_or, sym, refl, ap, ◌∙◌, inl, inr, arith}
+use Rattle.std.proofs.lemmas.Bool.{cases_lt, false≢true}
+use Rattle.std.proofs.lemmas.Option.{slice_get-get_or}
+use Rattle.std.specs.List.{slice_get}
+use Rattle.std.specs.Option.{ok_or}
+use Rattle.algebra.specs.Field.{FieldOn, multiple}
 use Rattle.algebra.specs.Poly.{coeff}
 use Rattle.algebra.proofs.Poly.{coeff_high}
-use Rattle.polynomial.specs.Lists.{highest, degree}
+use Rattle.algebra.proofs.Tab.{length_tab}
+use Rattle.fieldvec.specs.Faults.{asked}
+use Rattle.fieldvec.specs.declared.fault.ListFault.TheVariants.{Empty}
+use Rattle.fieldvec.proofs.Filled.{asked_some}
+use Rattle.polynomial.specs.Lists.{highest, degree, leading, derivative}
 
 module _ {A : Type 0} (F : FieldOn A) (p : List A) where
   highest_zero : (n : ℕ) → coeff F p (suc n) ≡ F.𝟘 → highest F p (suc n) ≡ highest F p n
@@ -21,37 +28,51 @@ module _ {A : Type 0} (F : FieldOn A) (p : List A) where
       by (yes e) = absurd (h e)
       by (no _) = refl
 
-  pub degree_start : degree F p ≡ highest F p (length p - 1)
-  degree_start = go (length p) (omega arith)
-    where
-      go : (n : ℕ) → length p ≤ n → highest F p n ≡ highest F p (n - 1)
-      go zero h = refl
-      go (suc n) h = let z : n ≡ suc n - 1 = omega arith in highest_zero n (coeff_high F p (suc n) h) ∙ ap (highest F p) z
+  -- no power above i has a coefficient that is not ZERO, and i has one unless it is 0
+  highest_is : (n i : ℕ) → i ≤ n → (0 < i → ¬ (coeff F p i ≡ F.𝟘)) → ((k : ℕ) → i < k → coeff F p k ≡ F.𝟘) → i ≡ highest F p n
+  highest_is zero i h top above = omega arith
+  highest_is (suc n) i h top above = elim (cases_lt i (suc n)) [
+    | inl l ↦ highest_is n i (omega arith) top above ∙ sym (highest_zero n (above (suc n) l))
+    | inr g ↦ let e : i ≡ suc n = omega arith in e ∙ sym (highest_other n (λ z. top (omega arith) (ap (coeff F p) e ∙ z)))
+  ]
 
-  -- looking at the entry y below i
-  module _ (i : ℕ) (y : A) (is : y ≡ get_or p (i - 1) y) (inside : i ≤ length p) (some : 1 < i) where
-    entry_is : y ≡ coeff F p (i - 1)
-    entry_is = is ∙ get_or_default p (i - 1) y F.𝟘 (omega arith)
-
-    before : i - 1 ≡ suc (i - 1 - 1)
-    before = omega arith
-
-    pub degree_passes : y ≡ F.𝟘 → degree F p ≡ highest F p (i - 1) → degree F p ≡ highest F p (i - 1 - 1)
-    degree_passes z e = e ∙ ap (highest F p) before ∙ highest_zero (i - 1 - 1) (ap (coeff F p) (sym before) ∙ sym entry_is ∙ z)
-
-    pub degree_found : ¬ (y ≡ F.𝟘) → degree F p ≡ highest F p (i - 1) → i - 1 ≡ degree F p
-    degree_found z e = before ∙ sym (highest_other (i - 1 - 1) (λ h. z (entry_is ∙ ap (coeff F p) before ∙ h))) ∙ ap (highest F p) (sym before) ∙ sym e
-
-  pub degree_none : (i : ℕ) → i ≤ 1 → degree F p ≡ highest F p (i - 1) → 0 ≡ degree F p
-  degree_none i h e = let z : 0 ≡ i - 1 = omega arith in ap (highest F p) z ∙ sym e
-
-  highest_below : (n : ℕ) → highest F p n ≤ n
+  highest_below : (n : ℕ) → highest F p n ≤ length p - 1
   highest_below zero = omega arith
   highest_below (suc n) = by (F.discrete (coeff F p (suc n)) F.𝟘) (highest_below n)
     where
-      by : (d : Dec (coeff F p (suc n) ≡ F.𝟘)) → highest F p n ≤ n → elim d [ yes _ ↦ highest F p n | no _ ↦ suc n ] ≤ suc n
-      by (yes _) h = omega arith
-      by (no _) h = omega arith
+      by : (d : Dec (coeff F p (suc n) ≡ F.𝟘)) → highest F p n ≤ length p - 1 → elim d [ yes _ ↦ highest F p n | no _ ↦ suc n ] ≤ length p - 1
+      by (yes _) h = h
+      by (no z) h = elim (cases_lt (suc n) (length p)) [ inl l ↦ omega arith | inr g ↦ absurd (z (coeff_high F p (suc n) g)) ]
 
   pub degree_below : degree F p ≤ length p - 1
-  degree_below = omega (arith, highest_below (length p - 1), degree_start)
+  degree_below = highest_below (length p)
+
+  -- what a search from the end for an entry other than ZERO finds
+  module _ (zeroes : A → Bool) (is : (a : A) → Decides (zeroes a) (a ≡ F.𝟘)) where
+    pub degree_found : (r : Option ℕ)
+        → MatchOption r ((k : ℕ) → k < length p → zeroes (coeff F p k) ≡ true)
+        (λ i. (i < length p) × (zeroes (coeff F p i) ≡ false) × ((k : ℕ) → i < k → k < length p → zeroes (coeff F p k) ≡ true))
+        → unwrap_or r 0 ≡ degree F p
+    degree_found None none = highest_is (length p) 0 (omega arith) (λ h. absurd (omega arith)) (λ k _. elim (cases_lt k (length p)) [
+      | inl l ↦ (is (coeff F p k)).0 (none k l)
+      | inr g ↦ coeff_high F p k g
+    ])
+    degree_found (Some i) (inside, other, above) = highest_is (length p) i (omega arith) (λ _ z. false≢true (sym other ∙ (is (coeff F p i)).1 z)) (λ k h. elim (cases_lt k (length p)) [
+      | inl l ↦ (is (coeff F p k)).0 (above k h l)
+      | inr g ↦ coeff_high F p k g
+    ])
+
+module _ {A : Type 0} (F : FieldOn A) (p : List A) where
+  -- an entry of the derivative
+  abbrev pub derived : ℕ → A
+  derived i = multiple F (coeff F p (suc i)) (suc i)
+
+  pub length_derivative : degree F p ≡ length (derivative F p)
+  length_derivative = sym (length_tab (degree F p) derived)
+
+-- the entry at the degree, which only the empty list lacks
+pub leading_found : {A : Type 0} (F : FieldOn A) (p : List A) → ok_or (slice_get p (degree F p)) Empty ≡ asked (length p) (leading F p)
+leading_found F [] = refl
+leading_found F (a ∷ p) =
+    let below = degree_below F (a ∷ p) in
+    ap (λ o. ok_or o Empty) (slice_get-get_or (a ∷ p) (degree F (a ∷ p)) F.𝟘 (omega arith)) ∙ asked_some (length (a ∷ p)) (leading F (a ∷ p)) (omega arith)

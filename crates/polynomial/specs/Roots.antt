@@ -2,8 +2,9 @@
 --   roots F p a n    the indices i below n with p ZERO at a^i, ascending
 --   coming F p c     the indices that the cursor c has yet to answer, if it is lent the list p
 --   Seeks F a r      r is a cursor over all indices below a's order, refused for ZERO
+--   Passes F c r c'  the cursor c has become c' by a step that answered r, the next index and the power at it
 --   Stepped F p c c' the cursor c has become c' by a call that was lent p
-use Rattle.std.specs.Prelude.{◌≡◌, ℕ, zero, suc, ◌-◌, List, [], ◌∷◌, drop, Ok, Err, Result}
+use Rattle.std.specs.Prelude.{◌≡◌, ℕ, zero, suc, ◌-◌, ◌<◌, List, [], ◌∷◌, drop, Option, None, Some, Ok, Err, Result}
 use Rattle.algebra.specs.Field.{FieldOn, pow, HasOrder}
 use Rattle.algebra.specs.Poly.{eval}
 use Rattle.field.specs.declared.fault.FieldFault.TheVariants.{Zero}
@@ -31,6 +32,10 @@ module _ {A : Type 0} (F : FieldOn A) where
 
   abbrev pub coming : List A → Roots A → List ℕ
   coming p c = left_over p c.base c.order c.left c.power
+
+  abbrev pub Passes : Roots A → Option (ℕ × A) → Roots A → Type 0
+  Passes c None c' = (c.left ≡ 0) × (c' ≡ c)
+  Passes c (Some at) c' = (c'.left < c.left) × ((p : List A) → coming p c ≡ pick (F.discrete (eval F p at.1) F.𝟘) at.0 (coming p c'))
 
   abbrev pub Seeks : A → Result (Roots A) ListFault → Type 0
   Seeks a (Ok c) = (n : ℕ) × HasOrder F a n × ((p : List A) → coming p c ≡ roots p a n)

@@ -1,37 +1,42 @@
 // Polynomials as coefficient lists: degree, value, derivative, and a cursor over roots.
-ghost use Rattle.std.specs.Prelude.{◌≡◌, ℕ, ◌+◌, ◌^◌, ◌<◌, ◌≤◌, min, ◌++◌, map, length};
-ghost use Rattle.algebra.specs.Field.{multiple as times};
-ghost use Rattle.algebra.specs.Poly.{eval, tab, coeff};
-ghost use Rattle.algebra.specs.Series.{times as term_of};
+ghost use Rattle.std.specs.Prelude.{◌≡◌, map, length};
+ghost use Rattle.algebra.specs.Poly.{eval};
 ghost use Rattle.fieldvec.specs.Faults.{asked, count, written};
 ghost use Rattle.polynomial.specs.Lists as spec;
-ghost use Rattle.polynomial.specs.Roots.{left_over, coming, Seeks, Stepped};
+ghost use Rattle.polynomial.specs.Roots.{coming, Seeks, Passes, Stepped};
 ghost use Rattle.std.specs.List.{slice_get as item};
 
 use crate::roots::Roots;
+use field::arithmetic::multiple;
 use field::field::{ExtensionField, Field};
 use field::powers::multiplicative_order;
 use fieldvec::fault::{ListFault, admit};
+
+// Refuses a list with no entry.
+fn not_empty<T>(list: &[T]) -> Result<(), ListFault>
+    ensures { result ≡ asked (length list.now) tt }
+{
+    if list.is_empty() {
+        Err(ListFault::Empty)
+    } else {
+        Ok(())
+    }
+}
 
 /// The degree of a list that may be empty: the highest power whose coefficient is not ZERO, else 0.
 pub fn top_power<F: Field>(list: &[F]) -> usize
     ensures { result ≡ spec.degree F.field list.now }
 {
-    for power in (1..list.len()).rev() {
-        if list[power] != F::zero() {
-            return power;
-        }
-    }
-    0
+    list.iter()
+        .rposition(|coefficient| *coefficient != F::zero())
+        .unwrap_or(0)
 }
 
 /// The degree: the highest power with a coefficient that is not ZERO, and 0 for a list of ZEROs.
 pub fn degree<F: Field>(list: &[F]) -> Result<usize, ListFault>
     ensures { result ≡ asked (length list.now) (spec.degree F.field list.now) }
 {
-    if list.is_empty() {
-        return Err(ListFault::Empty);
-    }
+    not_empty(list)?;
     Ok(top_power(list))
 }
 
@@ -39,30 +44,31 @@ pub fn degree<F: Field>(list: &[F]) -> Result<usize, ListFault>
 pub fn leading_term<F: Field>(list: &[F]) -> Result<F, ListFault>
     ensures { result ≡ asked (length list.now) (spec.leading F.field list.now) }
 {
-    if list.is_empty() {
-        return Err(ListFault::Empty);
-    }
-    Ok(list[top_power(list)])
+    list.get(top_power(list)).copied().ok_or(ListFault::Empty)
+}
+
+// The value at x, by Horner, of the list whose entries are those of `list` as they are read; ZERO for the empty list.
+fn horner<T: Copy, F: Field, R: Fn(T) -> F>(list: &[T], x: F, read: R) -> F
+    requires { R.IsAlwaysCallable read }
+    ensures { (entry : T → F) → ((y : T) (r : F) → R.post read y r → r ≡ entry y) → result ≡ eval F.field (map entry list.now) x }
+{
+    list.iter()
+        .rev()
+        .fold(F::zero(), |value, entry| read(*entry).add(x.mul(value)))
 }
 
 // The value at x, ZERO for the empty list.
 pub(crate) fn value_at<F: Field>(list: &[F], x: F) -> F
     ensures { result ≡ eval F.field list.now x }
 {
-    let mut value = F::zero();
-    for i in (0..list.len()).rev() {
-        value = list[i].add(x.mul(value));
-    }
-    value
+    horner(list, x, |entry| entry)
 }
 
 /// The value at x.
 pub fn evaluate<F: Field>(list: &[F], x: F) -> Result<F, ListFault>
     ensures { result ≡ asked (length list.now) (eval F.field list.now x) }
 {
-    if list.is_empty() {
-        return Err(ListFault::Empty);
-    }
+    not_empty(list)?;
     Ok(value_at(list, x))
 }
 
@@ -70,31 +76,8 @@ pub fn evaluate<F: Field>(list: &[F], x: F) -> Result<F, ListFault>
 pub fn evaluate_lifted<E: ExtensionField>(list: &[E::BaseField], x: E) -> Result<E, ListFault>
     ensures { result ≡ asked (length list.now) (eval E.Field.field (map E.lifted list.now) x) }
 {
-    if list.is_empty() {
-        return Err(ListFault::Empty);
-    }
-    let mut value = E::zero();
-    for i in (0..list.len()).rev() {
-        value = E::lift(list[i]).add(x.mul(value));
-    }
-    Ok(value)
-}
-
-// n times x, by doubling.
-fn multiple<F: Field>(x: F, n: usize) -> F
-    ensures { result ≡ times F.field x n }
-{
-    let mut sum = F::zero();
-    let mut doubled = x;
-    let mut left = n;
-    while left > 0 {
-        if left % 2 == 1 {
-            sum = sum.add(doubled);
-        }
-        doubled = doubled.add(doubled);
-        left /= 2;
-    }
-    sum
+    not_empty(list)?;
+    Ok(horner(list, x, |entry| E::lift(entry)))
 }
 
 /// The formal derivative: as many entries as the degree; it answers how many.
@@ -103,8 +86,9 @@ pub fn formal_derivative<F: Field>(list: &[F], out: &mut [F]) -> Result<usize, L
     ensures answered { out.new ≡ written (length list.now) (spec.derivative F.field list.now) out.old }
 {
     let n = admit(list.len(), top_power(list), out.len())?;
-    for i in 0..n {
-        out[i] = multiple(list[i + 1], i + 1);
+    // No zip with the coefficients: of a zip over iter_mut a proof does not know what was written.
+    for (i, entry) in out[..n].iter_mut().enumerate() {
+        *entry = multiple(list[i + 1], i + 1);
     }
     Ok(n)
 }
@@ -122,39 +106,28 @@ pub fn find_nonzero_distinct_roots<F: Field>(base: F) -> Result<Roots<F>, ListFa
     })
 }
 
-// Passes indices, a number of which are left, up to one at whose power the list is ZERO.
-fn seek<F: Field>(list: &[F], base: F, left: usize, power: F) -> (usize, F)
-    ensures same { (n : ℕ) → left_over F.field list.now base n result.0 result.1 ≡ left_over F.field list.now base n left power }
-    ensures root { 0 < result.0 → eval F.field list.now result.1 ≡ F.field.𝟘 }
-{
-    let mut k = left;
-    let mut x = power;
-    while k > 0 {
-        if value_at(list, x) == F::zero() {
-            return (k, x);
-        }
-        k -= 1;
-        x = base.mul(x);
-    }
-    (k, x)
-}
-
 impl<F: Field> Roots<F> {
+    // The next index, with the base's power at it, which the cursor then has passed.
+    fn step(&mut self) -> Option<(usize, F)>
+        ensures { Passes F.field self.old result self.new }
+    {
+        let (index, power) = (self.order.saturating_sub(self.left), self.power);
+        self.left = self.left.checked_sub(1)?;
+        self.power = self.base.mul(power);
+        Some((index, power))
+    }
+
     /// The next index, none past the last.
     pub fn next(&mut self, list: &[F]) -> Result<Option<usize>, ListFault>
         ensures answer { result ≡ asked (length list.now) (item (coming F.field list.now self.old) 0) }
         ensures rest { Stepped F.field list.now self.old self.new }
     {
-        if list.is_empty() {
-            return Err(ListFault::Empty);
+        not_empty(list)?;
+        while let Some((index, power)) = self.step() {
+            if value_at(list, power) == F::zero() {
+                return Ok(Some(index));
+            }
         }
-        let (left, power) = seek(list, self.base, self.left, self.power);
-        if left == 0 {
-            self.left = 0;
-            return Ok(None);
-        }
-        self.left = left - 1;
-        self.power = self.base.mul(power);
-        Ok(Some(self.order.saturating_sub(left)))
+        Ok(None)
     }
 }

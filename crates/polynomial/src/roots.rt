@@ -1,6 +1,7 @@
 // Where a search for roots stands.
 
-/// A cursor over the indices at whose power of a base a list is ZERO. The list is lent at each step.
+/// A cursor over the indices at whose power of a base a list is ZERO. The list is lent at each step, so that the cursor
+/// is no Iterator.
 #[derive(Clone, Copy)]
 pub struct Roots<F> {
     pub(crate) base: F,

@@ -14,12 +14,12 @@ pub fn product_term<F: Field>(p: &[F], q: &[F], n: usize) -> F
     ensures { result ≡ term_of F.field p.now (coeff F.field q.now) n }
 {
     let mut sum = F::zero();
-    for i in 0..p.len() {
-        if i > n {
+    for (i, a) in p.iter().enumerate() {
+        let Some(rest) = n.checked_sub(i) else {
             return sum;
-        }
-        if n - i < q.len() {
-            sum = sum.add(p[i].mul(q[n - i]));
+        };
+        if let Some(b) = q.get(rest) {
+            sum = sum.add(a.mul(*b));
         }
     }
     sum
@@ -31,8 +31,8 @@ pub(crate) fn series_product<F: Field>(p: &[F], q: &[F], from: usize, n: usize, 
     requires terms { from + n < 2 ^ 64 }
     ensures { out.new ≡ tab n (λ j. term_of F.field p.now (coeff F.field q.now) (from + j)) ++ drop n out.old }
 {
-    for j in 0..n {
-        out[j] = product_term(p, q, from + j);
+    for (j, entry) in out[..n].iter_mut().enumerate() {
+        *entry = product_term(p, q, from + j);
     }
 }
 

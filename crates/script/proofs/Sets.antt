@@ -12,8 +12,8 @@ module _ {K : Type 0} (rows : K → Rows) (law : (k : K) → Lawful (rows k)) wh
   named (Doubt place) = tt
   named Wipe = tt
   named (Seal k) = law k
-  named (Solve k r w) = law k
-  named (Settle k r w) = law k
+  named (Solve k lent) = law k
+  named (Settle k lent) = law k
 
   pub decided : Decided rows
   decided b ask a a' next next' f g = same (named ask) f g

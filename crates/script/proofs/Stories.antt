@@ -10,8 +10,7 @@ use Rattle.book.specs.Book.{Book, fresh}
 use Rattle.book.specs.Calls.{Call, Answer, Follows}
 use Rattle.book.specs.Codes.{Rows}
 use Rattle.book.specs.Story.{Leads}
-use Rattle.script.specs.Script.{asked, heard, calls_on, Stories, FreshStories, Unasked, Untouched}
-use Rattle.script.specs.declared.script.Reply.{Reply}
+use Rattle.script.specs.Script.{asked, heard, calls_on, Stories, FreshStories, Replied, Unasked, Untouched}
 use Rattle.script.specs.declared.script.Turn.{Turn}
 
 -- a call more
@@ -21,7 +20,7 @@ leads_more b (s ∷ ss) d e c a l f = (l.0, l.1, leads_more l.0 ss d e c a l.2 f
 
 -- the calls on slip i after a turn more
 module _ {K : Type 0} (rows : K → Rows) (i : ℕ) where
-  calls_put : (ts : List (Turn K)) (t : Turn K) (rs : List Reply) (r : Reply) → length ts < length rs
+  calls_put : (ts : List (Turn K)) (t : Turn K) (rs : List Replied) (r : Replied) → length ts < length rs
       → calls_on rows i (ts ++ t ∷ []) (set rs (length ts) r) ≡ calls_on rows i ts rs ++ cond (eqb t.slip i) ((asked rows t.ask, heard r) ∷ []) []
   calls_put ts t [] r h = absurd (omega arith)
   calls_put [] t (x ∷ rs) r h = refl
@@ -31,13 +30,13 @@ module _ {K : Type 0} (rows : K → Rows) (i : ℕ) where
       by true old last q = ap (λ z. (asked rows u.ask, heard x) ∷ z) q
       by false old last q = q
 
-  calls_past : (ts : List (Turn K)) (t : Turn K) (rs : List Reply) → eqb t.slip i ≡ false → calls_on rows i (ts ++ t ∷ []) rs ≡ calls_on rows i ts rs
+  calls_past : (ts : List (Turn K)) (t : Turn K) (rs : List Replied) → eqb t.slip i ≡ false → calls_on rows i (ts ++ t ∷ []) rs ≡ calls_on rows i ts rs
   calls_past [] t [] e = refl
   calls_past [] t (x ∷ rs) e = simp e
   calls_past (u ∷ ts) t [] e = refl
   calls_past (u ∷ ts) t (x ∷ rs) e = ap (λ z. cond (eqb u.slip i) ((asked rows u.ask, heard x) ∷ z) z) (calls_past ts t rs e)
 
-  calls_all : (ts : List (Turn K)) (rs : List Reply) (n : ℕ) → min (length ts) (length rs) ≤ n → calls_on rows i (take n ts) rs ≡ calls_on rows i ts rs
+  calls_all : (ts : List (Turn K)) (rs : List Replied) (n : ℕ) → min (length ts) (length rs) ≤ n → calls_on rows i (take n ts) rs ≡ calls_on rows i ts rs
   calls_all [] rs zero h = refl
   calls_all [] rs (suc n) h = refl
   calls_all (t ∷ ts) [] zero h = refl
@@ -52,9 +51,9 @@ module _ {K : Type 0} (ts : List (Turn K)) (k : ℕ) (t : Turn K) (h : k < lengt
   turns_before : length (take k ts) ≡ k
   turns_before = length-take-le k ts (omega arith)
 
-  module _ (rows : K → Rows) (before : List Book) (rs : List Reply) (books : List Book) (so_far : Stories rows before (take k ts) rs books) where
+  module _ (rows : K → Rows) (before : List Book) (rs : List Replied) (books : List Book) (so_far : Stories rows before (take k ts) rs books) where
     -- the turn's call is answered, on its slip
-    pub stories_put : (r : Reply) (e : Book) → k < length rs → t.slip < length books
+    pub stories_put : (r : Replied) (e : Book) → k < length rs → t.slip < length books
         → Follows (get_or books t.slip fresh) (asked rows t.ask) (heard r) e → Stories rows before (take (k + 1) ts) (set rs k r) (set books t.slip e)
     stories_put r e room there f i l = by (eqb t.slip i) refl
       where
@@ -93,11 +92,11 @@ unasked_take m [] (suc n) j u = tt
 unasked_take m (x ∷ ts) (suc n) zero u = u
 unasked_take m (x ∷ ts) (suc n) (suc j) u = unasked_take m ts n j u
 
-module _ {K : Type 0} (ts : List (Turn K)) (k : ℕ) (t : Turn K) (h : k < length ts) (is : t ≡ get_or ts k t) (m : ℕ) (was rs : List Reply) (so_far : Untouched m (take k ts) was rs) where
+module _ {K : Type 0} (ts : List (Turn K)) (k : ℕ) (t : Turn K) (h : k < length ts) (is : t ≡ get_or ts k t) (m : ℕ) (was rs : List Replied) (so_far : Untouched m (take k ts) was rs) where
   pub untouched_past : Untouched m (take (k + 1) ts) was rs
   untouched_past j d u = so_far j d (unasked_front m (take k ts) t j (subst (λ us. Unasked m us j) (one_turn_more ts k t h is) u))
 
-  pub untouched_put : (r : Reply) → t.slip < m → Untouched m (take (k + 1) ts) was (set rs k r)
+  pub untouched_put : (r : Replied) → t.slip < m → Untouched m (take (k + 1) ts) was (set rs k r)
   untouched_put r there j d u =
       get_or-set_other rs k j r d (λ e. omega (arith, unasked_last m (take k ts) t (here e))) ∙ untouched_past j d u
     where
@@ -105,7 +104,7 @@ module _ {K : Type 0} (ts : List (Turn K)) (k : ℕ) (t : Turn K) (h : k < lengt
       here e = subst (λ x. Unasked m (take k ts ++ t ∷ []) x) (e ∙ sym (turns_before ts k t h is)) (subst (λ us. Unasked m us j) (one_turn_more ts k t h is) u)
 
 -- turns past the last reply are not made
-pub stories_all : {K : Type 0} (rows : K → Rows) (before after : List Book) (ts : List (Turn K)) (rs : List Reply) (n : ℕ) → min (length ts) (length rs) ≤ n
+pub stories_all : {K : Type 0} (rows : K → Rows) (before after : List Book) (ts : List (Turn K)) (rs : List Replied) (n : ℕ) → min (length ts) (length rs) ≤ n
     → Stories rows before (take n ts) rs after → Stories rows before ts rs after
 stories_all rows before after ts rs n h s i l = rw (← (calls_all rows i ts rs n h)) (s i l)
 
@@ -115,5 +114,5 @@ fresh_at [] h i = refl
 fresh_at (b ∷ books) h zero = h.0
 fresh_at (b ∷ books) h (suc i) = fresh_at books h.1 i
 
-pub stories_fresh : {K : Type 0} (rows : K → Rows) (before after : List Book) (ts : List (Turn K)) (rs : List Reply) → Stories rows before ts rs after → FreshStories rows before ts rs after
+pub stories_fresh : {K : Type 0} (rows : K → Rows) (before after : List Book) (ts : List (Turn K)) (rs : List Replied) → Stories rows before ts rs after → FreshStories rows before ts rs after
 stories_fresh rows before after ts rs s all-fresh i l = subst (λ (b : Book). Leads b (calls_on rows i ts rs) (get_or after i fresh)) (fresh_at before all-fresh i) (s i l)

@@ -5,12 +5,13 @@ ghost use Rattle.book.specs.Calls.{Follows, said, seal, solve, settle};
 ghost use Rattle.book.specs.CodeFaults.{told};
 ghost use Rattle.book.specs.Codes.{Rows, Lawful, rows_of};
 ghost use Rattle.mending.specs.Answers.{told_list};
-ghost use Rattle.script.specs.Sets.{either_rows};
+ghost use Rattle.either.specs.Either.{either};
 
-use crate::members::{Desk, Desks, Either, One};
+use crate::members::{Desk, One};
 use book::code_fault::CodeFault;
 use book::record::Record;
 use checksum::checksum::Checksum;
+use either::{Either, Left, Right};
 use field::field::{ExtensionField, Field};
 use mending::mending::{settle, solve};
 use slip::slip::Slip;
@@ -93,9 +94,7 @@ impl<C: Checksum> CodeSet for One<C> {
         desk: &mut Desk<C::CorrectionField>,
     ) -> Result<(usize, usize), CodeFault> {
         C::laws();
-        let lent = w.min(216);
-        let work = &mut desk.work[..];
-        solve::<C>(slip, records, &mut work[0..lent])
+        solve::<C>(slip, records, &mut desk.work[..w.min(216)])
     }
 
     fn settle(
@@ -106,35 +105,31 @@ impl<C: Checksum> CodeSet for One<C> {
         desk: &mut Desk<C::CorrectionField>,
     ) -> Result<(usize, usize), CodeFault> {
         C::laws();
-        let lent = w.min(216);
-        let work = &mut desk.work[..];
-        settle::<C>(slip, records, &mut work[0..lent])
+        settle::<C>(slip, records, &mut desk.work[..w.min(216)])
     }
 }
 
+// Two sets as one: a value names a code of the first or of the second.
 impl<A: CodeSet, B: CodeSet> CodeSet for Either<A, B> {
-    type Desk = Desks<A::Desk, B::Desk>;
+    type Desk = (A::Desk, B::Desk);
 
-    ghost rows = { either_rows A.CodeSet.rows B.CodeSet.rows };
+    ghost rows = { either A.CodeSet.rows B.CodeSet.rows };
 
-    ghost clear = { λ d. A.CodeSet.clear d.first × B.CodeSet.clear d.second };
+    ghost clear = { λ d. A.CodeSet.clear d.0 × B.CodeSet.clear d.1 };
 
     fn laws() {
         A::laws();
         B::laws();
     }
 
-    fn desk() -> Desks<A::Desk, B::Desk> {
-        Desks {
-            first: A::desk(),
-            second: B::desk(),
-        }
+    fn desk() -> (A::Desk, B::Desk) {
+        (A::desk(), B::desk())
     }
 
     fn seal(self, slip: &mut Slip) -> Result<(), CodeFault> {
         match self {
-            Either::First(a) => a.seal(slip),
-            Either::Second(b) => b.seal(slip),
+            Left(a) => a.seal(slip),
+            Right(b) => b.seal(slip),
         }
     }
 
@@ -143,11 +138,11 @@ impl<A: CodeSet, B: CodeSet> CodeSet for Either<A, B> {
         slip: &Slip,
         records: &mut [Record],
         w: usize,
-        desk: &mut Desks<A::Desk, B::Desk>,
+        desk: &mut (A::Desk, B::Desk),
     ) -> Result<(usize, usize), CodeFault> {
         match self {
-            Either::First(a) => a.solve(slip, records, w, &mut desk.first),
-            Either::Second(b) => b.solve(slip, records, w, &mut desk.second),
+            Left(a) => a.solve(slip, records, w, &mut desk.0),
+            Right(b) => b.solve(slip, records, w, &mut desk.1),
         }
     }
 
@@ -156,11 +151,11 @@ impl<A: CodeSet, B: CodeSet> CodeSet for Either<A, B> {
         slip: &mut Slip,
         records: &mut [Record],
         w: usize,
-        desk: &mut Desks<A::Desk, B::Desk>,
+        desk: &mut (A::Desk, B::Desk),
     ) -> Result<(usize, usize), CodeFault> {
         match self {
-            Either::First(a) => a.settle(slip, records, w, &mut desk.first),
-            Either::Second(b) => b.settle(slip, records, w, &mut desk.second),
+            Left(a) => a.settle(slip, records, w, &mut desk.0),
+            Right(b) => b.settle(slip, records, w, &mut desk.1),
         }
     }
 }

@@ -1,19 +1,14 @@
 // Running a script.
-ghost use Rattle.std.specs.Prelude.{◌≡◌, length};
-ghost use Rattle.book.specs.Calls.{Follows, said, solve, settle};
-ghost use Rattle.book.specs.CodeFaults.{told as code-told};
+ghost use Rattle.std.specs.Prelude.{◌≡◌, ◌≤◌, length};
+ghost use Rattle.book.specs.Calls.{Follows, listed, solve, settle};
 ghost use Rattle.book.specs.Promise.{Promise};
-ghost use Rattle.book.specs.SlipFaults.{told as slip-told};
-ghost use Rattle.mending.specs.Answers.{told_list};
-ghost use Rattle.script.specs.Script.{asked, heard, Few, Stories, FreshStories, Decided, Untouched};
+ghost use Rattle.script.specs.Script.{asked, heard, Stories, FreshStories, Decided, Untouched};
 
 use crate::codes::CodeSet;
 use crate::listing::Listing;
-use crate::script::{Ask, Reply, Turn};
-use book::code_fault::CodeFault;
-use book::record::Record;
-use book::slip_fault::SlipFault;
-use field::fault::Refusal;
+use crate::script::{Answer, Ask, Lent, Reply, Turn};
+use book::pattern::Pattern;
+use book::record::{BLANK, Record};
 use slip::slip::Slip;
 
 /// Runs a script: makes the turns' calls one after another, each on the slip that its turn names, and puts each answer
@@ -38,12 +33,10 @@ pub fn run<K: CodeSet>(
 {
     K::laws();
     let steps = turns.len().min(replies.len());
-    for i in 0..steps {
-        let turn = turns[i];
-        if turn.slip >= slips.len() {
-            continue;
+    for (i, turn) in turns[..steps].iter().enumerate() {
+        if turn.slip < slips.len() {
+            replies[i] = answer(&mut slips[turn.slip], turn.ask, desk);
         }
-        replies[i] = answer(&mut slips[turn.slip], turn.ask, desk);
     }
 }
 
@@ -52,76 +45,43 @@ fn answer<K: CodeSet>(slip: &mut Slip, ask: Ask<K>, desk: &mut K::Desk) -> Reply
     ensures { Follows slip.old (asked K.CodeSet.rows ask) (heard result) slip.new }
 {
     match ask {
-        Ask::Write(v) => slip_reply(slip.write(v)),
-        Ask::Blank => slip_reply(slip.blank()),
-        Ask::Doubt(place) => slip_reply(slip.doubt(place)),
-        Ask::Wipe => {
-            slip.wipe();
-            Reply::Done
-        }
-        Ask::Seal(code) => code_reply(code.seal(slip)),
-        Ask::Solve(code, r, w) => solve_turn(slip, code, r, w, desk),
-        Ask::Settle(code, r, w) => settle_turn(slip, code, r, w, desk),
+        Ask::Write(v) => slip.write(v)?,
+        Ask::Blank => slip.blank()?,
+        Ask::Doubt(place) => slip.doubt(place)?,
+        Ask::Wipe => slip.wipe(),
+        Ask::Seal(code) => code.seal(slip)?,
+        Ask::Solve(code, lent) => return solve_turn(slip, code, lent, desk),
+        Ask::Settle(code, lent) => return settle_turn(slip, code, lent, desk),
     }
+    Ok(Answer::Done)
 }
 
-// A solve that is lent r records: no code lists more than sixteen.
-fn solve_turn<K: CodeSet>(slip: &Slip, code: K, r: usize, w: usize, desk: &mut K::Desk) -> Reply
-    ensures { Follows slip.now (solve (K.CodeSet.rows code) r w) (heard result) slip.now }
+// A solve that is lent records in fixed memory: no code lists more than sixteen.
+fn solve_turn<K: CodeSet>(slip: &Slip, code: K, lent: Lent, desk: &mut K::Desk) -> Reply
+    ensures { Follows slip.now (solve (K.CodeSet.rows code) lent.records lent.working) (heard result) slip.now }
 {
     K::laws();
-    let mut records = [Record {
-        place: 0,
-        change: 0,
-    }; 16];
-    let lent = r.min(16);
-    let listed = code.solve(slip, &mut records[0..lent], w, desk);
-    list_reply(listed, records)
+    let mut records = [BLANK; 16];
+    let room = lent.records.min(16);
+    let (written, nonzero) = code.solve(slip, &mut records[..room], lent.working, desk)?;
+    Ok(listing(&records[..written], nonzero))
 }
 
-fn settle_turn<K: CodeSet>(
-    slip: &mut Slip,
-    code: K,
-    r: usize,
-    w: usize,
-    desk: &mut K::Desk,
-) -> Reply
-    ensures { Follows slip.old (settle (K.CodeSet.rows code) r w) (heard result) slip.new }
+// The same of a settle. Two functions, since a solve only reads the slip: a closure for either would need clauses for what it
+// does to the slip, the records and the desk, longer than these lines.
+fn settle_turn<K: CodeSet>(slip: &mut Slip, code: K, lent: Lent, desk: &mut K::Desk) -> Reply
+    ensures { Follows slip.old (settle (K.CodeSet.rows code) lent.records lent.working) (heard result) slip.new }
 {
     K::laws();
-    let mut records = [Record {
-        place: 0,
-        change: 0,
-    }; 16];
-    let lent = r.min(16);
-    let listed = code.settle(slip, &mut records[0..lent], w, desk);
-    list_reply(listed, records)
+    let mut records = [BLANK; 16];
+    let room = lent.records.min(16);
+    let (written, nonzero) = code.settle(slip, &mut records[..room], lent.working, desk)?;
+    Ok(listing(&records[..written], nonzero))
 }
 
-fn slip_reply(answer: Result<(), SlipFault>) -> Reply
-    ensures { heard result ≡ said slip-told answer }
+fn listing(records: &[Record], nonzero: usize) -> Answer
+    requires { length records.now ≤ 16 }
+    ensures { heard (Ok result) ≡ listed records.now (length records.now) nonzero }
 {
-    match answer {
-        Ok(()) => Reply::Done,
-        Err(fault) => Reply::Refused(Refusal::from(fault)),
-    }
-}
-
-fn code_reply(answer: Result<(), CodeFault>) -> Reply
-    ensures { heard result ≡ said code-told answer }
-{
-    match answer {
-        Ok(()) => Reply::Done,
-        Err(fault) => Reply::Refused(Refusal::from(fault)),
-    }
-}
-
-fn list_reply(answer: Result<(usize, usize), CodeFault>, records: [Record; 16]) -> Reply
-    requires { Few answer }
-    ensures { heard result ≡ told_list answer records }
-{
-    match answer {
-        Ok((written, nonzero)) => Reply::Listed(Listing::new(records, written, nonzero)),
-        Err(fault) => Reply::Refused(Refusal::from(fault)),
-    }
+    Answer::Listed(Listing::new(Pattern::from_slice(records).unwrap(), nonzero))
 }

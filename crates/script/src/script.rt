@@ -2,6 +2,15 @@
 use crate::listing::Listing;
 use field::fault::Refusal;
 
+/// How much memory a call is lent.
+#[derive(Clone, Copy)]
+pub struct Lent {
+    /// How many records to list into.
+    pub records: usize,
+    /// How many elements to work in.
+    pub working: usize,
+}
+
 /// A call on a slip, with its arguments. K is a set of codes: a value of it names the code of the call.
 #[derive(Clone, Copy)]
 pub enum Ask<K> {
@@ -15,11 +24,10 @@ pub enum Ask<K> {
     Wipe,
     /// Append the check symbols of a code.
     Seal(K),
-    /// List how the row becomes the row near it by a code. The numbers say how many records, and how many elements to
-    /// work in, are lent to the call.
-    Solve(K, usize, usize),
+    /// List how the row becomes the row near it by a code.
+    Solve(K, Lent),
     /// The same, and then hold that row, nothing doubted.
-    Settle(K, usize, usize),
+    Settle(K, Lent),
 }
 
 /// One step of a script: a call, and the number of the slip that it is made on.
@@ -29,13 +37,14 @@ pub struct Turn<K> {
     pub ask: Ask<K>,
 }
 
-/// What a call answers.
+/// What a call tells that was done.
 #[derive(Clone, Copy)]
-pub enum Reply {
-    /// The call was done, and there is nothing to tell.
+pub enum Answer {
+    /// There is nothing to tell.
     Done,
-    /// The call was refused, and the slip is as it was.
-    Refused(Refusal),
     /// A row is near: what changes the slip's row into it.
     Listed(Listing),
 }
+
+/// What a call answers. Where it is refused, the slip is as it was.
+pub type Reply = Result<Answer, Refusal>;

@@ -1,7 +1,6 @@
 -- A book of eight symbols is sealed by the finish code: it is within the limit, and four symbols are added.
-use Rattle.std.proofs.Common.{◌≡◌, ℕ, eqb, List, [], ◌∷◌, ◌++◌, map, length, Ok, Result, sym, refl, ap, ◌∙◌, arith}
+use Rattle.std.proofs.Common.{◌≡◌, ℕ, List, [], ◌∷◌, ◌++◌, map, length, Ok, refl, ap, ◌∙◌, arith}
 use Rattle.std.proofs.lemmas.List.{length-append, length-map, map-append}
-use Rattle.std.proofs.lemmas.Bool.{cond-true, eq-eqb}
 use Rattle.algebra.specs.Code as code
 use Rattle.algebra.specs.Code.{checks}
 use Rattle.algebra.proofs.Sealing.{length_seal}
@@ -10,10 +9,7 @@ use Rattle.gf32.specs.Gf32.{gf32, gf32_numbers}
 use Rattle.book.specs.Book.{Book, after, row, sure}
 use Rattle.slip.specs.Sealing.{check_symbols, elements, seal}
 use Rattle.slip.proofs.Sealing.{seal_held}
-use Rattle.sheet.specs.Groups.{in_groups}
-use Rattle.sheet.specs.Sealed.{sealed_row, text_of}
-use Rattle.sheet.specs.declared.characters.Case.{Case}
-use Rattle.sheet.specs.declared.fault.LineFault.{LineFault}
+use Rattle.sheet.specs.Sealed.{sealed_row}
 
 four_checks : checks finish ≡ 4
 unfolding finish
@@ -47,6 +43,3 @@ module _ (b : Book) (eight : length b ≡ 8) where
       let m = length-map cs gf32_numbers.number in
       let n = length_seal gf32 finish target_length (elements gf32_numbers (row b)) in
       length-append (row b) (check_symbols gf32_numbers gf32 finish (row b)) ∙ omega (arith, four_checks)
-
-pub eight_text : (case : Case) (taken : Result Book LineFault) (b : Book) (text : List ℕ) → taken ≡ Ok b → length b ≡ 8 → text ≡ in_groups case (sealed_row (row b)) → Ok text ≡ text_of case taken
-eight_text case taken b text e h t = ap Ok t ∙ sym (ap (text_of case) e ∙ cond-true (eqb (length b) 8) _ _ (eq-eqb (length b) 8 h))

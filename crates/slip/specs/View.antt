@@ -2,8 +2,7 @@
 --   book_of    the book
 --   Filled     what is true of the memory of every slip
 --   Holdable   what is true of the book of every slip
-use Rattle.std.specs.Prelude.{◌≡◌, ℕ, ◌<◌, ◌≤◌, Bool, List, [], ◌∷◌, length, take, slice_index}
-use Rattle.algebra.specs.Series.{All}
+use Rattle.std.specs.Prelude.{◌≡◌, ℕ, ◌<◌, ◌≤◌, Bool, List, [], ◌∷◌, length, take, All}
 use Rattle.book.specs.Book.{Place, Book, row}
 use Rattle.slip.specs.declared.slip.Slip.TheInside.{Inside}
 
@@ -23,7 +22,7 @@ pub record Filled (s : Inside) : Type 0 where
   pub all_symbols : length s.symbols ≡ 89
   pub all_marks : length s.doubted ≡ 89
   pub room : s.len ≤ 89
-  pub below : (k : ℕ) → slice_index s.symbols k < 32
+  pub below : All (λ v. v < 32) s.symbols
 
 pub record Holdable (b : Book) : Type 0 where
   pub room : length b ≤ 89

@@ -7,6 +7,7 @@ pub mod readers;
 pub mod sealing;
 
 /// A row in the making: up to 89 symbols, each below 32, and for each place whether its symbol is doubted.
+// Two arrays side by side, since each is lent as a slice, by `symbols` and by `marks`, and there is no heap to copy one to.
 #[derive(Drop)]
 pub struct Slip {
     symbols: [u8; 89],

@@ -6,6 +6,7 @@ use super::Slip;
 
 impl Slip {
     // A place more, where there is room for it.
+    #[tactic(auto, using(crate::proofs::Memory::steps))]
     pub(crate) fn push(&mut self, symbol: u8, doubted: bool)
         requires small { symbol < 32 }
         requires room { length self.old < 89 }

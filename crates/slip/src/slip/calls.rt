@@ -18,6 +18,7 @@ impl Slip {
     }
 
     /// Appends a symbol, undoubted.
+    #[tactic(auto, using(crate::proofs::Memory::steps))]
     pub fn write(&mut self, v: u8) -> Result<(), SlipFault>
         ensures answer { result ≡ answer (write v self.old) }
         ensures book { self.new ≡ after self.old (write v self.old) }
@@ -33,6 +34,7 @@ impl Slip {
     }
 
     /// Appends a place whose symbol was not understood: 0, doubted.
+    #[tactic(auto, using(crate::proofs::Memory::steps))]
     pub fn blank(&mut self) -> Result<(), SlipFault>
         ensures answer { result ≡ answer (blank self.old) }
         ensures book { self.new ≡ after self.old (blank self.old) }
@@ -45,6 +47,7 @@ impl Slip {
     }
 
     /// Marks a place as doubted. A place that is doubted already stays so.
+    #[tactic(auto, using(crate::proofs::Memory::steps))]
     pub fn doubt(&mut self, place: usize) -> Result<(), SlipFault>
         ensures answer { result ≡ answer (doubt place self.old) }
         ensures book { self.new ≡ after self.old (doubt place self.old) }

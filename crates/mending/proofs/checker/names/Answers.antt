@@ -1,11 +1,10 @@
-use Rattle.mending.proofs.Checking.{decided_yes, decided_no, mem_at, mem_next, mem_none}
+use Rattle.std.proofs.Common.{eqb, rules, tests}
+use Rattle.std.proofs.lemmas.Iterator.{YieldsList-from_slice}
+use Rattle.std.proofs.lemmas.Iterator.Search.{any_from_yields_List}
+use Rattle.mending.proofs.Checking.{named}
 use Rattle.mending.proofs.checker.names.Goals as goal
 
-pub returns-then-record-place : goal.returns-then-record-place
-returns-then-record-place c = decided_yes (mem_at c.args.place c.args.records.now c.loop-record.record-index c.loop-record-test.true c.if-record-place.true)
-
-pub loop-record-preserved : goal.loop-record-preserved
-loop-record-preserved c m = mem_next c.args.place c.args.records.now c.loop-record.record-index c.loop-record-test.true c.if-record-place.false (c.loop-record.invariant m)
-
 pub returns : goal.returns
-returns c = decided_no (λ m. mem_none c.args.place c.args.records.now c.loop-record.record-index c.loop-record-test.false (c.loop-record.invariant m))
+returns c =
+    let any = any_from_yields_List (λ r. eqb r.place c.args.place) _ _ c.any.result c.any.ensures.ran (YieldsList-from_slice c.args.records.now cc) (λ x b q k. search (rules, tests)) in
+    rw any (named c.args.place c.args.records.now)

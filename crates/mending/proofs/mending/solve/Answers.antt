@@ -1,29 +1,17 @@
-use Rattle.std.proofs.Common.{◌≡◌, length, refl}
+use Rattle.std.proofs.Common.{length}
+use Rattle.std.proofs.lemmas.Result.{err_from_is_err_and}
 use Rattle.book.specs.Calls.{solves}
 use Rattle.book.specs.Codes.{rows_of}
-use Rattle.book.specs.Patterns.{held}
-use Rattle.mending.proofs.Finding.{past, solved, zero_number}
+use Rattle.mending.proofs.Finding.{solved}
 use Rattle.mending.proofs.mending.solve.Goals as goal
 
-pub returns-in-Ok : goal.returns-in-Ok
-returns-in-Ok g c =
-    let C = rows_of g.C.SymbolField.Field.numbers g.C.SymbolField.Field.field g.C.Checksum.code in
-    let b = c.args.slip.now in
-    let r = length c.args.records.now in
-    let w = length c.args.work.now in
-    let cs = c.records.result.now in
-    let zero : C.nothing ≡ c.number.result = zero_number g.C.SymbolField.Field.numbers g.C.SymbolField.Field.field c.zero.result c.number.result c.zero.ensures c.number.ensures.number in
-    record {
-      follows = solved C r w b (held c.in-Ok.pattern) cs c.list.new.records c.args.records.now c.list.result.0 c.list.result.1
-          c.in-Ok.ensures.found c.records.ensures c.list.ensures.many (c.list.ensures.changed C zero) c.list.ensures.listed;
-      past = past C r w b (held c.in-Ok.pattern) cs c.list.new.records c.args.records.now c.list.result.0 c.list.result.1
-          c.in-Ok.ensures.found c.records.ensures c.list.ensures.many (c.list.ensures.changed C zero) c.list.ensures.listed;
-      working = c.in-Ok.ensures.working;
-    }
+pub returns-in_err-pattern-clause-follows : goal.returns-in_err-pattern-clause-follows
+returns-in_err-pattern-clause-follows g c =
+    let p = err_from_is_err_and c.from_residual.result c.from_residual.ensures.1 in
+    rw (p.1, p.2) (solves c.in_err-pattern.ensures.found)
 
-pub returns-in-Err : goal.returns-in-Err
-returns-in-Err g c = record {
-  follows = solves c.in-Err.ensures.found;
-  past = refl;
-  working = c.in-Err.ensures.working;
-}
+pub returns-clause-follows : goal.returns-clause-follows
+returns-clause-follows g c =
+    let C = rows_of g.C.SymbolField.Field.numbers g.C.SymbolField.Field.field g.C.Checksum.code in
+    solved C (length c.args.records.now) (length c.args.work.now) c.args.slip.now c.in_ok-pattern.pattern c.list.new.records c.args.records.now
+    c.list.result.0 c.list.result.1 c.in_ok-pattern.ensures.found c.list.ensures.many c.list.ensures.changed c.list.ensures.listed

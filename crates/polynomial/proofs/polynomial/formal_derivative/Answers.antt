@@ -1,11 +1,11 @@
-use Rattle.std.proofs.Common.{◌≡◌, suc, ◌+◌, ◌<◌, length, sym, refl, ap, ◌∙◌, ap₂, add-one, arith}
-use Rattle.std.proofs.lemmas.List.{get_or_default}
+use Rattle.std.proofs.Common.{◌≡◌, suc, ◌+◌, ◌<◌, length, refl, ap, ◌∙◌, ap₂, add-one, arith}
+use Rattle.std.proofs.lemmas.List.{get_or_default, length-take-le}
 use Rattle.algebra.specs.Field.{multiple}
 use Rattle.algebra.specs.Poly.{tab, coeff}
-use Rattle.algebra.proofs.Tab.{length_tab}
-use Rattle.polynomial.specs.Lists.{degree, derivative}
-use Rattle.polynomial.proofs.Degrees.{degree_below}
-use Rattle.fieldvec.proofs.Filled.{filled_more, filled_all, refuses, refuses_list, accepts, accepts_list}
+use Rattle.polynomial.specs.Lists.{derivative}
+use Rattle.polynomial.proofs.Degrees.{degree_below, derived, length_derivative}
+use Rattle.polynomial.proofs.Fronts.{front_filled}
+use Rattle.fieldvec.proofs.Filled.{filled_more, refuses, refuses_list, accepts, accepts_list}
 use Rattle.polynomial.proofs.polynomial.formal_derivative.Goals as goal
 
 pub returns-in_err-n : goal.returns-in_err-n
@@ -13,17 +13,21 @@ returns-in_err-n g c =
     let F = g.F.Field.field in
     let p = c.args.list.now in
     let old = c.args.out.now in
-    let size : c.top_power.result ≡ length (derivative F p) = c.top_power.ensures ∙ sym (length_tab (degree F p) (λ i. multiple F (coeff F p (suc i)) (suc i))) in
+    let size = c.top_power.ensures ∙ length_derivative F p in
     record {
       answer = refuses (length p) (derivative F p) old c.admit.result (length p) c.top_power.result c.admit.ensures.answer refl size c.in_err-n.field-0.0 c.in_err-n.was c.from_residual.result c.from_residual.ensures.1;
       answered = refuses_list (length p) (derivative F p) old c.admit.result (length p) c.top_power.result c.admit.ensures.answer refl size c.in_err-n.field-0.0 c.in_err-n.was;
     }
 
 pub offset_bounds-list-i : goal.offset_bounds-list-i
-offset_bounds-list-i g c = omega (arith, degree_below g.F.Field.field c.args.list.now, c.in_ok-n.ensures.holds)
+offset_bounds-list-i g c =
+    let holds = c.in_ok-n.ensures.holds in
+    omega (arith, degree_below g.F.Field.field c.args.list.now, length-take-le c.in_ok-n.n c.args.out.now holds.1)
 
 pub bounds-list-i : goal.bounds-list-i
-bounds-list-i g c = omega (arith, degree_below g.F.Field.field c.args.list.now, c.in_ok-n.ensures.holds)
+bounds-list-i g c =
+    let holds = c.in_ok-n.ensures.holds in
+    omega (arith, degree_below g.F.Field.field c.args.list.now, length-take-le c.in_ok-n.n c.args.out.now holds.1)
 
 pub loop-i-preserved : goal.loop-i-preserved
 loop-i-preserved g c =
@@ -31,11 +35,12 @@ loop-i-preserved g c =
     let p = c.args.list.now in
     let i = c.loop-i.i in
     let holds = c.in_ok-n.ensures.holds in
+    let front = length-take-le c.in_ok-n.n c.args.out.now holds.1 in
     let y = c.index-list-i.result in
     let below = degree_below F p in
     let inside : i + 1 < length p = omega arith in
     let read : y ≡ coeff F p (suc i) = c.index-list-i.is ∙ get_or_default p (i + 1) y F.𝟘 inside ∙ ap (coeff F p) (add-one i) in
-    filled_more (λ i. multiple F (coeff F p (suc i)) (suc i)) c.args.out.now i c.loop-i.out c.loop-i.invariant c.multiple.result (omega arith)
+    filled_more (derived F p) _ i c.loop-i.entry-items c.loop-i.invariant c.multiple.result c.loop-i-test.true
     (c.multiple.ensures ∙ ap₂ (multiple F) read (add-one i))
 
 pub returns : goal.returns
@@ -44,12 +49,13 @@ returns g c =
     let p = c.args.list.now in
     let old = c.args.out.now in
     let n = c.in_ok-n.n in
-    let size : c.top_power.result ≡ length (derivative F p) = c.top_power.ensures ∙ sym (length_tab (degree F p) (λ i. multiple F (coeff F p (suc i)) (suc i))) in
+    let size = c.top_power.ensures ∙ length_derivative F p in
     let holds = c.in_ok-n.ensures.holds in
+    let front = length-take-le n old holds.1 in
     let all : c.loop-i.i ≡ n = omega arith in
     record {
       answer = accepts (length p) (derivative F p) old c.admit.result (length p) c.top_power.result c.admit.ensures.answer refl size n c.in_ok-n.was;
       answered =
-          accepts_list (length p) (derivative F p) old c.admit.result (length p) c.top_power.result c.admit.ensures.answer refl size n c.loop-i.out c.in_ok-n.was
-          (filled_all (λ i. multiple F (coeff F p (suc i)) (suc i)) c.loop-i.i n (derivative F p) old c.loop-i.out all (ap (λ m. tab m (λ i. multiple F (coeff F p (suc i)) (suc i))) (holds.0 ∙ c.top_power.ensures)) c.loop-i.invariant);
+          accepts_list (length p) (derivative F p) old c.admit.result (length p) c.top_power.result c.admit.ensures.answer refl size n _ c.in_ok-n.was
+          (front_filled (derived F p) c.loop-i.i n (derivative F p) old c.loop-i.entry-items holds.1 all (ap (λ m. tab m (derived F p)) (holds.0 ∙ c.top_power.ensures)) c.loop-i.invariant);
     }

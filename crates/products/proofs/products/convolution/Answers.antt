@@ -1,9 +1,9 @@
-use Rattle.std.proofs.Common.{◌≡◌, ◌+◌, ◌-◌, ◌<◌, max, ◌++◌, length, drop, sym, refl, ap, ◌∙◌, ap₂, arith}
+use Rattle.std.proofs.Common.{◌≡◌, ◌+◌, ◌-◌, ◌<◌, ◌++◌, length, drop, refl, ap, ◌∙◌, ap₂, arith}
 use Rattle.algebra.specs.Poly.{tab, coeff}
 use Rattle.algebra.specs.Series.{times}
 use Rattle.polynomial.specs.Lists.{degree, convolved}
 use Rattle.fieldvec.proofs.Filled.{refuses, refuses_list, accepts, accepts_list}
-use Rattle.products.proofs.Tabulated.{length_some_terms, no_terms, terms, set_first}
+use Rattle.products.proofs.Tabulated.{convolved_size, terms}
 use Rattle.products.proofs.products.convolution.Goals as goal
 
 pub returns-in_err-n : goal.returns-in_err-n
@@ -12,31 +12,11 @@ returns-in_err-n g c =
     let p = c.args.a.now in
     let s = c.args.s.now in
     let old = c.args.out.now in
-    let many : c.saturating_sub-terms.result ≡ length s - degree F p = c.saturating_sub-terms.ensures ∙ ap (λ k. length s - k) c.top_power-power.ensures in
-    let size : c.max.result ≡ length (convolved F p s) = c.max.ensures ∙ ap (λ n. max n 1) many ∙ length_some_terms F (length s - degree F p) (λ j. times F p (coeff F s) (degree F p + j)) in
+    let many = c.saturating_sub-terms.ensures ∙ ap (λ k. length s - k) c.top_power-power.ensures in
+    let size = c.max.ensures ∙ convolved_size F p s c.saturating_sub-terms.result many in
     record {
       answer = refuses (length p) (convolved F p s) old c.admit.result (length p) c.max.result c.admit.ensures.answer refl size c.in_err-n.field-0.0 c.in_err-n.was c.from_residual.result c.from_residual.ensures.1;
       answered = refuses_list (length p) (convolved F p s) old c.admit.result (length p) c.max.result c.admit.ensures.answer refl size c.in_err-n.field-0.0 c.in_err-n.was;
-    }
-
-pub returns-then-terms-eq0 : goal.returns-then-terms-eq0
-returns-then-terms-eq0 g c =
-    let F = g.F.Field.field in
-    let p = c.args.a.now in
-    let s = c.args.s.now in
-    let old = c.args.out.now in
-    let n = c.in_ok-n.n in
-    let holds = c.in_ok-n.ensures.holds in
-    let many : c.saturating_sub-terms.result ≡ length s - degree F p = c.saturating_sub-terms.ensures ∙ ap (λ k. length s - k) c.top_power-power.ensures in
-    let size : c.max.result ≡ length (convolved F p s) = c.max.ensures ∙ ap (λ n. max n 1) many ∙ length_some_terms F (length s - degree F p) (λ j. times F p (coeff F s) (degree F p + j)) in
-    let none : length s - degree F p ≡ 0 = sym many ∙ c.if-terms-eq0.true in
-    let one : n ≡ 1 = holds.0 ∙ c.max.ensures ∙ ap (λ n. max n 1) c.if-terms-eq0.true in
-    let room : 0 < length old = omega arith in
-    record {
-      answer = accepts (length p) (convolved F p s) old c.admit.result (length p) c.max.result c.admit.ensures.answer refl size n c.in_ok-n.was;
-      answered =
-          accepts_list (length p) (convolved F p s) old c.admit.result (length p) c.max.result c.admit.ensures.answer refl size n _ c.in_ok-n.was
-          (set_first F c.zero.result old n c.zero.ensures room one ∙ ap (λ t. t ++ drop n old) (sym (no_terms F (length s - degree F p) (λ j. times F p (coeff F s) (degree F p + j)) none)));
     }
 
 pub returns : goal.returns
@@ -49,7 +29,7 @@ returns g c =
     let holds = c.in_ok-n.ensures.holds in
     let k = c.saturating_sub-terms.result in
     let many : k ≡ length s - degree F p = c.saturating_sub-terms.ensures ∙ ap (λ k. length s - k) c.top_power-power.ensures in
-    let size : c.max.result ≡ length (convolved F p s) = c.max.ensures ∙ ap (λ n. max n 1) many ∙ length_some_terms F (length s - degree F p) (λ j. times F p (coeff F s) (degree F p + j)) in
+    let size = c.max.ensures ∙ convolved_size F p s k many in
     let some : 0 < length s - degree F p = omega arith in
     let all : k ≡ n = omega arith in
     let list : tab k (λ j. times F p (coeff F s) (c.top_power-power.result + j)) ≡ convolved F p s =

@@ -1,14 +1,14 @@
-use Rattle.std.proofs.Common.{◌<◌, ◌≤◌, length, ap, ◌∙◌, arith, take_all}
+use Rattle.std.proofs.Common.{◌≡◌, ◌+◌, ◌<◌, length, ap, ◌∙◌, arith, rules}
 use Rattle.algebra.specs.Poly.{coeff}
-use Rattle.algebra.specs.Series.{times}
 use Rattle.products.proofs.Terms.{times_cut, term_more, term_past}
 use Rattle.products.proofs.products.product_term.Goals as goal
-use Rattle.products.proofs.products.product_term.Goals.{then-n-i, else-n-i}
+use Rattle.products.proofs.products.product_term.Goals.{in-Some-get, in_default-get}
 
-pub returns-then-i-n : goal.returns-then-i-n
-returns-then-i-n g c =
+pub returns-in_default : goal.returns-in_default
+returns-in_default g c =
     let F = g.F.Field.field in
-    c.loop-i.invariant.1 ∙ times_cut F c.args.p.now (coeff F c.args.q.now) c.args.n c.loop-i.i (omega arith)
+    let past : c.args.n < c.loop-i.i = grind arith in
+    c.loop-i.invariant.1 ∙ times_cut F c.args.p.now (coeff F c.args.q.now) c.args.n c.loop-i.i past
 
 pub loop-i-preserved : goal.loop-i-preserved
 loop-i-preserved g c =
@@ -17,17 +17,13 @@ loop-i-preserved g c =
     let q = c.args.q.now in
     let n = c.args.n in
     let i = c.loop-i.i in
+    let rest = c.in-Some.rest in
     let h : i < length p = omega arith in
-    let k : i ≤ n = omega arith in (
+    let e = c.in-Some.ensures in
+    let k : i + rest ≡ n = omega arith in (
       omega arith,
-      elim c.if-n-i.branch [
-        | then-n-i w ↦ w.sum-is ∙ term_more F p q n i c.loop-i.sum c.loop-i.invariant.1 h k w.index-p-i.result w.index-q-n.result w.add-sum.result (omega arith) w.index-p-i.is w.index-q-n.is (w.add-sum.ensures ∙ ap (F.add c.loop-i.sum) w.mul.ensures)
-        | else-n-i w ↦ w.sum-is ∙ term_past F p q n i c.loop-i.sum c.loop-i.invariant.1 h k (omega arith)
+      elim c.match-get.branch [
+        | in-Some-get w ↦ w.sum-is ∙ term_more F p q n i rest c.loop-i.sum c.loop-i.invariant.1 h k c.index-p-i.result w.in-Some-get.b.now w.add-sum.result (search rules) c.index-p-i.is (search rules) (w.add-sum.ensures ∙ ap (F.add c.loop-i.sum) w.mul.ensures)
+        | in_default-get w ↦ w.sum-is ∙ term_past F p q n i rest c.loop-i.sum c.loop-i.invariant.1 h k (search rules)
       ],
     )
-
-pub returns : goal.returns
-returns g c =
-    let F = g.F.Field.field in
-    let all : length c.args.p.now ≤ c.loop-i.i = omega arith in
-    c.loop-i.invariant.1 ∙ ap (λ l. times F l (coeff F c.args.q.now) c.args.n) (take_all c.loop-i.i c.args.p.now all)

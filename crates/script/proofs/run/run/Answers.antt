@@ -1,5 +1,5 @@
-use Rattle.std.proofs.Common.{◌<◌, length, get_or, refl, arith}
-use Rattle.std.proofs.lemmas.List.{get_or_default}
+use Rattle.std.proofs.Common.{◌≡◌, ◌<◌, length, get_or, take, ◌∙◌, arith, length-take}
+use Rattle.std.proofs.lemmas.List.{get_or-take, get_or_default}
 use Rattle.book.specs.Book.{fresh}
 use Rattle.book.specs.Calls.{Follows}
 use Rattle.book.proofs.Kept.{promise}
@@ -7,38 +7,38 @@ use Rattle.script.specs.Script.{asked, heard}
 use Rattle.script.proofs.Sets.{decided}
 use Rattle.script.proofs.Stories.{stories_put, stories_past, stories_all, stories_fresh, untouched_put, untouched_past, unasked_take}
 use Rattle.script.proofs.run.run.Goals as goal
-
-pub loop-i-init : goal.loop-i-init
-loop-i-init g c = (λ i l. refl, λ j d u. refl)
-
-pub loop-i-preserved-then-turn-slips : goal.loop-i-preserved-then-turn-slips
-loop-i-preserved-then-turn-slips g c =
-    let ts = c.args.turns.now in
-    let k = c.loop-i.i in
-    let t = c.index-turns-i.result in
-    let h : k < length ts = omega arith in (
-      stories_past ts k t h c.index-turns-i.is g.K.CodeSet.rows c.args.slips.now c.loop-i.replies c.loop-i.slips c.loop-i.invariant.0 (omega arith),
-      untouched_past ts k t h c.index-turns-i.is (length c.args.slips.now) c.args.replies.now c.loop-i.replies c.loop-i.invariant.1,
-    )
+use Rattle.script.proofs.run.run.Goals.{then-turn-slips, else-turn-slips}
 
 pub loop-i-preserved : goal.loop-i-preserved
 loop-i-preserved g c =
     let rows = g.K.CodeSet.rows in
     let ts = c.args.turns.now in
     let k = c.loop-i.i in
-    let t = c.index-turns-i.result in
+    let t = c.turn-item.result in
     let rs = c.loop-i.replies in
     let ss = c.loop-i.slips in
-    let r = c.answer.result in
-    let e = c.answer.new.slip in
-    let h : k < length ts = omega arith in
-    let room : k < length rs = omega arith in
-    let there : t.slip < length ss = omega arith in
-    let f : Follows (get_or ss t.slip fresh) (asked rows t.ask) (heard r) e =
-    rw (get_or_default ss t.slip fresh c.index-slips-turn.result (omega arith)) c.answer.ensures in (
-      stories_put ts k t h c.index-turns-i.is rows c.args.slips.now rs ss c.loop-i.invariant.0 r e room there f,
-      untouched_put ts k t h c.index-turns-i.is (length c.args.slips.now) c.args.replies.now rs c.loop-i.invariant.1 r (omega arith),
-    )
+    let m = length c.args.slips.now in
+    let test : k < length (take c.min-steps.result ts) = c.loop-i-test.true in
+    let long = length-take c.min-steps.result ts in
+    let h : k < length ts = omega (arith, c.min-steps.ensures) in
+    let is : t ≡ get_or ts k t = c.turn-item.is ∙ get_or-take c.min-steps.result ts k t (omega (arith, c.min-steps.ensures)) in
+    elim c.if-turn-slips.branch [
+      | then-turn-slips w ↦
+          let r = w.answer.result in
+          let e = w.answer.new.slip in
+          let room : k < length rs = omega (arith, c.min-steps.ensures) in
+          let there : t.slip < length ss = omega (arith, w.if-turn-slips.true) in
+          let f : Follows (get_or ss t.slip fresh) (asked rows t.ask) (heard r) e =
+          rw (get_or_default ss t.slip fresh w.index-slips-turn.result (omega arith)) w.answer.ensures in
+          rw (w.slips-is, w.replies-is) (
+            stories_put ts k t h is rows c.args.slips.now rs ss c.loop-i.invariant.0 r e room there f,
+            untouched_put ts k t h is m c.args.replies.now rs c.loop-i.invariant.1 r (omega arith),
+          )
+      | else-turn-slips w ↦ rw (w.slips-is, w.replies-is) (
+        stories_past ts k t h is rows c.args.slips.now rs ss c.loop-i.invariant.0 (omega (arith, w.if-turn-slips.false)),
+        untouched_past ts k t h is m c.args.replies.now rs c.loop-i.invariant.1,
+      )
+    ]
 
 pub returns : goal.returns
 returns g c =
@@ -47,7 +47,7 @@ returns g c =
     let after = c.loop-i.slips in
     let ts = c.args.turns.now in
     let rs = c.loop-i.replies in
-    let whole = stories_all rows before after ts rs c.loop-i.i (omega arith) c.loop-i.invariant.0 in
+    let whole = stories_all rows before after ts rs c.loop-i.i (omega (arith, c.min-steps.ensures, length-take c.min-steps.result ts, c.loop-i-test.false)) c.loop-i.invariant.0 in
     record {
       stories = whole;
       fresh = stories_fresh rows before after ts rs whole;

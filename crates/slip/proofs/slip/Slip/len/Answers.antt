@@ -1,13 +1,5 @@
-use Rattle.std.proofs.Common.{length, sym, ap, ◌∙◌, subst}
-use Rattle.slip.specs.View.{Holdable}
-use Rattle.slip.proofs.Below.{holdable}
-use Rattle.slip.proofs.Places.{length_book}
+use Rattle.slip.proofs.Memory.{can_hold}
 use Rattle.slip.proofs.slip.Slip.len.Goals as goal
 
-pub returns : goal.returns
-returns c =
-    let s = c.self.inside in
-    record {
-      len = sym (length_book s c.self.invariant) ∙ ap length c.self.view_is;
-      holdable = subst Holdable c.self.view_is (holdable s c.self.invariant);
-    }
+pub returns-clause-holdable : goal.returns-clause-holdable
+returns-clause-holdable c = can_hold c.self.inside c.args.self.now c.self.invariant c.self.view_is

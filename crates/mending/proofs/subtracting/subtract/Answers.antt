@@ -1,0 +1,22 @@
+use Rattle.std.proofs.Common.{arith}
+use Rattle.std.proofs.lemmas.Grind.{common_steps}
+use Rattle.book.specs.Codes.{rows_of}
+use Rattle.mending.proofs.Lessening.{subtract_more, subtract_past}
+use Rattle.mending.proofs.subtracting.subtract.Goals as goal
+use Rattle.mending.proofs.subtracting.subtract.Goals.{then-record-symbols, else-record-symbols}
+
+pub loop-record-preserved : goal.loop-record-preserved
+loop-record-preserved g c =
+    let C = rows_of g.C.SymbolField.Field.numbers g.C.SymbolField.Field.field g.C.Checksum.code in
+    let rs = c.args.records.now in
+    let l = c.loop-record in
+    elim c.if-record-symbols.branch [
+      | then-record-symbols w ↦ record {
+        same = rw w.symbols-is (subtract_more C rs l.record-index l.symbols _ c.loop-record-test.true l.invariant.same w.less.result w.less.ensures.less);
+        below = grind (arith, common_steps);
+      }
+      | else-record-symbols w ↦ record {
+        same = rw w.symbols-is (subtract_past C rs l.record-index l.symbols _ c.loop-record-test.true l.invariant.same w.if-record-symbols.false);
+        below = rw w.symbols-is l.invariant.below;
+      }
+    ]
