@@ -8,7 +8,7 @@ use Rattle.algebra.proofs.Laws.{neg_mul}
 use Rattle.algebra.proofs.Linear.{length_lin, coeff_lin}
 use Rattle.algebra.proofs.Poly.{coeff_high}
 use Rattle.algebra.proofs.Tab.{tab_coeff}
-use Rattle.fieldvec.proofs.Filled.{Filled, filled_none, filled_more, filled_read, tab_more}
+use Rattle.fieldvec.proofs.Filled.{Filled, filled_more, filled_read, tab_more}
 
 module _ {A : Type 0} (F : FieldOn A) (x : A) (e : List A) where
   abbrev product : ℕ → A

@@ -1,6 +1,6 @@
 -- What the list functions write, in the words of decoding: the register of the convolved syndromes, its product with the
 -- locator of the erasures, the first terms of that times the syndromes, and its derivative. Assumes nothing.
-use Rattle.std.proofs.Common.{◌≡◌, ℕ, zero, suc, ◌+◌, ◌-◌, ◌*◌, ◌<◌, ◌≤◌, min, max, Bool, List, [], ◌∷◌, length, sym, refl, ap, ◌∙◌, ap₂, arith}
+use Rattle.std.proofs.Common.{◌≡◌, ℕ, zero, suc, ◌+◌, ◌-◌, ◌*◌, ◌<◌, ◌≤◌, min, Bool, List, [], ◌∷◌, length, refl, ap, ◌∙◌, ap₂, arith}
 use native.Mathlib.Decide.{dec_lt}
 use Rattle.algebra.specs.Field.{FieldOn, pow}
 use Rattle.algebra.specs.Poly.{coeff, eval, poly_mul, tab}
@@ -18,7 +18,6 @@ use Rattle.algebra.proofs.Series.{times_agree}
 use Rattle.algebra.proofs.Tab.{length_tab, coeff_tab, tab_same}
 use Rattle.polynomial.specs.Lists.{degree, derivative, product, some_terms, convolved}
 use Rattle.polynomial.proofs.Degrees.{degree_below}
-use Rattle.products.proofs.Tabulated.{length_some_terms}
 use Rattle.lfsr.specs.Registers.{connection}
 use Rattle.decoding.proofs.Coefficients.{degree_is, times_coeff, coeff_product, eval_product, eval_derivative}
 
