@@ -18,9 +18,6 @@ Onward Change n all before ps hs =
     (Y : ℕ → ℕ) → Listable Change Y all before → Listable Change Y ps hs × (hs ++ map (record_of n Y) ps ≡ before ++ map (record_of n Y) all)
 
 module _ {Change : ℕ → ℕ → Type 0} (n : ℕ) {all : List ℕ} {before : List Record} where
-  pub onward_none : Onward Change n all before all before
-  onward_none Y l = (l, refl)
-
   pub onward_all : {hs : List Record} → Onward Change n all before [] hs → Lists Change n all before (Some tt) hs
   onward_all {hs} o Y l = (refl, sym (append-nil hs) ∙ (o Y l).1)
 

@@ -84,6 +84,3 @@ module _ {A : Type 0} {F : FieldOn A} {a : A} {fs rest : List Bool} {len : ℕ} 
         power = ey ∙ ap (F.mul a) h.power;
         room = h.room;
       }
-
-  pub doubted_all : rest ≡ [] → take len w ≡ locator F (pow F a) (positions fs)
-  doubted_all none = front ∙ ap (located F a fs) (sym (ap (λ r. r ++ h.done) none) ∙ h.parts)

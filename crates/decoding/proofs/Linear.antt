@@ -19,9 +19,6 @@ module _ {A : Type 0} (F : FieldOn A) (x : A) (e : List A) where
     pub filled : Filled product i e w
     pub carried : below ≡ shift F (coeff F e) i
 
-  pub turned_none : {below : A} → below ≡ F.𝟘 → Turned 0 below e
-  turned_none h = record { filled = filled_none product e; carried = h }
-
 module _ {A : Type 0} {F : FieldOn A} {x : A} {e : List A} {i : ℕ} {below : A} {w : List A} (h : Turned F x e i below w) where
   open F use {𝟘, add as ◌⊕◌, mul as ◌⊗◌, neg as ⊖◌}
 

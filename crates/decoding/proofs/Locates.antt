@@ -71,63 +71,50 @@ module _ {A : Type 0} (F : FieldOn A) where
     degree_Γ : degree F Γ ≡ f
     degree_Γ = degree_is F Γ f (length_locator F X ps) (top_ne_zero F X (pow_ne_zero F a nonzero) ps)
 
-    pub erasures_size : {gs : List A} → gs ≡ Γ → length gs ≡ count marks + 1
-    erasures_size e = omega (arith, ap length e, length_locator F X ps, marked)
-
-    pub terms_size : {gs ts : List A} → gs ≡ Γ → ts ≡ convolved F gs s → length ts ≡ max (d - count marks) 1
-    terms_size e t =
-        ap length (t ∙ ap (λ g. convolved F g s) e) ∙ sym (length_some_terms F (d - degree F Γ) (λ j. times F Γ S (degree F Γ + j)))
-        ∙ ap (λ n. max (d - n) 1) (degree_Γ ∙ marked)
-
     connection_is : connection F (convolved F Γ s) ≡ Λ
     connection_is =
         ap (λ n. connection F (some_terms F (d - n) (λ j. times F Γ S (n + j)))) degree_Γ
         ∙ connection_terms (d - f) (λ j. times F Γ S (f + j)) (folded F X ps S d) (λ j l. let c : f + j ≡ j + f = omega arith in ap (times F Γ S) c)
 
-    pub errors_are : {gs ts ks : List A} → gs ≡ Γ → ts ≡ convolved F gs s → ks ≡ connection F ts → ks ≡ Λ
-    errors_are e t k = k ∙ ap (connection F) (t ∙ ap (λ g. convolved F g s) e) ∙ connection_is
+    few_located : length Λ + count marks ≤ d + 1
+    few_located = omega (arith, (shortest F (folded F X ps S d) (d - f)).size, register_long F (folded F X ps S d) (d - f), marked)
 
-    -- the error locator has an entry, and no more than the folded syndromes and one
-    pub some_errors : {ks : List A} → ks ≡ Λ → 0 < length ks
-    some_errors k = omega (arith, ap length k, (shortest F (folded F X ps S d) (d - f)).size)
+    -- the lists that are written one from the other: the erasures' locator, the folded syndromes and the errors' locator
+    module _ {gs ts ks : List A} (e : gs ≡ Γ) (t : ts ≡ convolved F gs s) (k : ks ≡ connection F ts) where
+      pub errors_are : ks ≡ Λ
+      errors_are = k ∙ ap (connection F) (t ∙ ap (λ g. convolved F g s) e) ∙ connection_is
 
-    pub few_errors : {ks : List A} → ks ≡ Λ → length ks + count marks ≤ d + 1
-    few_errors k = omega (arith, ap length k, (shortest F (folded F X ps S d) (d - f)).size, register_long F (folded F X ps S d) (d - f), marked)
+      pub few_errors : length ks + count marks ≤ d + 1
+      few_errors = omega (arith, ap length errors_are, few_located)
 
-    -- the errata locator with ZEROs above, which a cut at a number that is large enough leaves whole
-    module _ (cut : ℕ) (large : 18 ≤ cut) where
-      within : degree F Λ + degree F Γ ≤ d
-      within = omega (arith, degree_below F Λ, degree_Γ, few_errors refl, marked)
+      -- the errata locator with ZEROs above, which a cut at a number that is large enough leaves whole
+      module _ (cut : ℕ) (large : 18 ≤ cut) where
+        within : degree F Λ + degree F Γ ≤ d
+        within = omega (arith, degree_below F Λ, degree_Γ, few_located, marked)
 
-      errata_coeff : (n : ℕ) → coeff F (product F Λ Γ cut) n ≡ coeff F (errata_locator F X ps S d) n
-      errata_coeff = coeff_product F Λ Γ cut (omega (arith, within))
+        whole_coeff : (n : ℕ) → coeff F (product F Λ Γ cut) n ≡ coeff F (errata_locator F X ps S d) n
+        whole_coeff = coeff_product F Λ Γ cut (omega (arith, within))
 
-      errata_size : length (product F Λ Γ cut) ≡ degree F Λ + degree F Γ + 2
-      errata_size = length_tab (min cut (degree F Λ + degree F Γ + 2)) (times F Λ (coeff F Γ)) ∙ omega (arith, within)
+        whole_size : length (product F Λ Γ cut) ≡ degree F Λ + degree F Γ + 2
+        whole_size = length_tab (min cut (degree F Λ + degree F Γ + 2)) (times F Λ (coeff F Γ)) ∙ omega (arith, within)
 
-      module _ {ks gs es : List A} (k : ks ≡ Λ) (e : gs ≡ Γ) (is : es ≡ product F ks gs cut) where
-        errata_are : es ≡ product F Λ Γ cut
-        errata_are = is ∙ ap₂ (λ p q. product F p q cut) k e
+        module _ {es : List A} (is : es ≡ product F ks gs cut) where
+          errata_are : es ≡ product F Λ Γ cut
+          errata_are = is ∙ ap₂ (λ p q. product F p q cut) errors_are e
 
-        pub some_errata : 0 < length es
-        some_errata = omega (arith, ap length errata_are, errata_size)
+          pub few_errata : length es ≤ d + 2
+          few_errata = omega (arith, ap length errata_are, whole_size, within)
 
-        pub few_errata : length es ≤ d + 2
-        few_errata = omega (arith, ap length errata_are, errata_size, within)
+          pub values_are : {ws : List A} → ws ≡ product F es s d → (x : A) → eval F ws x ≡ eval F (errata_evaluator F X ps S d) x
+          values_are w x =
+              ap (λ p. eval F p x) (w ∙ ap (λ p. product F p s d) errata_are) ∙ eval_product F (product F Λ Γ cut) s d x
+              ∙ ap (λ q. eval F q x) (tab_same d (times F (product F Λ Γ cut) S) (times F (errata_locator F X ps S d) S)
+              (λ n _. times_coeff F (product F Λ Γ cut) (errata_locator F X ps S d) S whole_coeff n))
 
-        pub some_values : {ws : List A} → ws ≡ product F es s d → 0 < length ws
-        some_values w = omega (arith, ap length w, length_tab (min d (degree F es + degree F s + 2)) (times F es S))
-
-        pub values_are : {ws : List A} → ws ≡ product F es s d → (x : A) → eval F ws x ≡ eval F (errata_evaluator F X ps S d) x
-        values_are w x =
-            ap (λ p. eval F p x) (w ∙ ap (λ p. product F p s d) errata_are) ∙ eval_product F (product F Λ Γ cut) s d x
-            ∙ ap (λ q. eval F q x) (tab_same d (times F (product F Λ Γ cut) S) (times F (errata_locator F X ps S d) S)
-            (λ n _. times_coeff F (product F Λ Γ cut) (errata_locator F X ps S d) S errata_coeff n))
-
-        pub slopes_are : {ds : List A} → ds ≡ derivative F es → (x : A) → eval F ds x ≡ eval F (deriv F (errata_locator F X ps S d)) x
-        slopes_are l x =
-            ap (λ p. eval F p x) (l ∙ ap (derivative F) errata_are) ∙ eval_derivative F (product F Λ Γ cut) x
-            ∙ deriv_coeff F (product F Λ Γ cut) (errata_locator F X ps S d) x errata_coeff
+          pub slopes_are : {ds : List A} → ds ≡ derivative F es → (x : A) → eval F ds x ≡ eval F (deriv F (errata_locator F X ps S d)) x
+          slopes_are l x =
+              ap (λ p. eval F p x) (l ∙ ap (derivative F) errata_are) ∙ eval_derivative F (product F Λ Γ cut) x
+              ∙ deriv_coeff F (product F Λ Γ cut) (errata_locator F X ps S d) x whole_coeff
 
   -- decoding reads the first d terms of its series only
   module _ {I : Type 0} (X : I → A) (ps : List I) (S T : ℕ → A) (d : ℕ) (same : (j : ℕ) → j < d → S j ≡ T j) where

@@ -1,4 +1,4 @@
-pub mod Cutting
+pub mod Counted
 pub mod OneTurn
 pub mod Putting
 pub mod Saying

@@ -12,16 +12,17 @@ use output::line::{Told, write_output_line};
 use script::codes::CodeSet;
 use script::members::One;
 use script::run::run;
-use script::script::{Ask, Reply, Turn};
+use script::script::{Answer, Ask, Lent, Reply, Turn};
 use sheet::reading_off::{read_off, whole_seconds};
 use sheet::taking::take_line;
 use slip::slip::Slip;
 use std::marker::PhantomData;
 
-// What a settle is lent: records, and elements to work in. No code asks for more.
-const RECORDS: usize = 16;
-
-const WORKING: usize = 216;
+// What a settle is lent. No code asks for more.
+const LENT: Lent = Lent {
+    records: 16,
+    working: 216,
+};
 
 /// The output line of a typed line: the line's number, the number of its refusal or 0, how many symbols were changed, the
 /// sail number, and the seconds since midnight. Of a refused line the last three are 0.
@@ -62,10 +63,8 @@ fn finish(line: &[u8]) -> Result<Reading, Refusal>
 {
     let mut slips = [Slip::new()];
     take_line(&mut slips[0], line)?;
-    let listing = match settle(&mut slips) {
-        Reply::Listed(listing) => listing,
-        Reply::Refused(why) => return Err(why),
-        Reply::Done => unreachable(),
+    let Answer::Listed(listing) = settle(&mut slips)? else {
+        unreachable()
     };
     let (sail, tenths) = read_off(slips[0].symbols())?;
     Ok(Reading {
@@ -83,9 +82,9 @@ fn settle(slips: &mut [Slip; 1]) -> Reply
     let code = One::<Finish> { code: PhantomData };
     let turns = [Turn {
         slip: 0,
-        ask: Ask::Settle(code, RECORDS, WORKING),
+        ask: Ask::Settle(code, LENT),
     }];
-    let mut replies = [Reply::Done];
+    let mut replies = [Ok(Answer::Done)];
     run(slips, &turns, &mut replies, &mut One::<Finish>::desk());
     replies[0]
 }

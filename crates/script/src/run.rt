@@ -67,7 +67,8 @@ fn solve_turn<K: CodeSet>(slip: &Slip, code: K, lent: Lent, desk: &mut K::Desk) 
     Ok(listing(&records[..written], nonzero))
 }
 
-// The same of a settle.
+// The same of a settle. Two functions, since a solve only reads the slip: a closure for either would need clauses for what it
+// does to the slip, the records and the desk, longer than these lines.
 fn settle_turn<K: CodeSet>(slip: &mut Slip, code: K, lent: Lent, desk: &mut K::Desk) -> Reply
     ensures { Follows slip.old (settle (K.CodeSet.rows code) lent.records lent.working) (heard result) slip.new }
 {

@@ -4,37 +4,33 @@ use Rattle.correction.proofs.locating.locate.Goals as goal
 
 pub product-errata-requires-clause-room : goal.product-errata-requires-clause-room
 product-errata-requires-clause-room g c =
-    let F = g.F.Field.field in
-    let s = c.args.s.now in
-    let marks = c.args.marks.now in
-    let errors = errors_are F s marks c.args.a c.requires.few c.requires.some c.requires.short c.requires.nonzero
-    c.erasure_locator-erasures.ensures.list c.folded_syndromes-terms.ensures.list c.connection_list-errors.ensures.list in
-    omega (arith, few_errors F s marks c.args.a c.requires.few c.requires.some c.requires.short c.requires.nonzero errors)
+    let r = c.requires in
+    omega (arith, few_errors g.F.Field.field c.args.s.now c.args.marks.now c.args.a r.few r.some r.short r.nonzero
+    c.erasure_locator-erasures.ensures.list c.folded_syndromes-terms.ensures.list c.connection_list-errors.ensures.list)
 
 pub derivative_of-requires-clause-room : goal.derivative_of-requires-clause-room
 derivative_of-requires-clause-room g c =
-    let F = g.F.Field.field in
-    let s = c.args.s.now in
-    let marks = c.args.marks.now in
-    let erasures = c.erasure_locator-erasures.ensures.list in
-    let errors = errors_are F s marks c.args.a c.requires.few c.requires.some c.requires.short c.requires.nonzero
-    erasures c.folded_syndromes-terms.ensures.list c.connection_list-errors.ensures.list in
+    let r = c.requires in
     let MAX : ℕ = 18446744073709551615 in
-    omega (arith, few_errata F s marks c.args.a c.requires.few c.requires.some c.requires.short c.requires.nonzero MAX (omega arith) errors erasures c.product-errata.ensures.list)
+    omega (arith, few_errata g.F.Field.field c.args.s.now c.args.marks.now c.args.a r.few r.some r.short r.nonzero
+    c.erasure_locator-erasures.ensures.list c.folded_syndromes-terms.ensures.list c.connection_list-errors.ensures.list MAX (omega arith) c.product-errata.ensures.list)
 
-pub returns : goal.returns
-returns g c =
-    let F = g.F.Field.field in
-    let s = c.args.s.now in
-    let marks = c.args.marks.now in
-    let erasures = c.erasure_locator-erasures.ensures.list in
-    let errors = errors_are F s marks c.args.a c.requires.few c.requires.some c.requires.short c.requires.nonzero
-    erasures c.folded_syndromes-terms.ensures.list c.connection_list-errors.ensures.list in
+pub returns-clause-errors : goal.returns-clause-errors
+returns-clause-errors g c =
+    let r = c.requires in
+    errors_are g.F.Field.field c.args.s.now c.args.marks.now c.args.a r.few r.some r.short r.nonzero
+    c.erasure_locator-erasures.ensures.list c.folded_syndromes-terms.ensures.list c.connection_list-errors.ensures.list
+
+pub returns-clause-evaluator : goal.returns-clause-evaluator
+returns-clause-evaluator g c =
+    let r = c.requires in
     let MAX : ℕ = 18446744073709551615 in
-    record {
-      errors = errors;
-      evaluator = values_are F s marks c.args.a c.requires.few c.requires.some c.requires.short c.requires.nonzero MAX (omega arith) errors erasures c.product-errata.ensures.list c.product.ensures.list;
-      slopes = slopes_are F s marks c.args.a c.requires.few c.requires.some c.requires.short c.requires.nonzero MAX (omega arith) errors erasures c.product-errata.ensures.list c.derivative_of.ensures;
-      some_errors = c.connection_list-errors.ensures.some;
-      some_values = omega (arith, c.product.ensures.some);
-    }
+    values_are g.F.Field.field c.args.s.now c.args.marks.now c.args.a r.few r.some r.short r.nonzero
+    c.erasure_locator-erasures.ensures.list c.folded_syndromes-terms.ensures.list c.connection_list-errors.ensures.list MAX (omega arith) c.product-errata.ensures.list c.product.ensures.list
+
+pub returns-clause-slopes : goal.returns-clause-slopes
+returns-clause-slopes g c =
+    let r = c.requires in
+    let MAX : ℕ = 18446744073709551615 in
+    slopes_are g.F.Field.field c.args.s.now c.args.marks.now c.args.a r.few r.some r.short r.nonzero
+    c.erasure_locator-erasures.ensures.list c.folded_syndromes-terms.ensures.list c.connection_list-errors.ensures.list MAX (omega arith) c.product-errata.ensures.list c.derivative_of.ensures

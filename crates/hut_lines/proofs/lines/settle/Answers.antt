@@ -12,5 +12,5 @@ returns c =
     let some : 0 < length slips = omega arith in
     record {
       follows = one_turn finish_rows _ _ c.run.new.replies _ one-reply (c.run.ensures.stories 0 some);
-      decided = λ b. c.run.ensures.decided b (Settle (record { code = record {} }) 16 216);
+      decided = λ b. c.run.ensures.decided b (Settle (record { code = record {} }) (record { records = 16; working = 216 }));
     }
