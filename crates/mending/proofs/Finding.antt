@@ -1,5 +1,5 @@
 -- From a proposal and what the checker says of it to the answers of solve and settle. Assumes nothing.
-use Rattle.std.proofs.Common.{◌≡◌, ℕ, ◌+◌, ◌*◌, ◌<◌, ◌≤◌, Bool, true, false, cond, eqb, ltb, leb, Decides, List, [], ◌∷◌, ◌++◌, count_by, map, length, not, take, drop, Some, None, Ok, Option, sym, refl, ap, ◌∙◌, subst, arith}
+use Rattle.std.proofs.Common.{◌≡◌, ℕ, ◌+◌, ◌*◌, ◌<◌, ◌≤◌, Bool, true, false, cond, ltb, leb, Decides, List, [], ◌∷◌, ◌++◌, map, length, take, drop, Some, None, Ok, Option, sym, refl, ap, ◌∙◌, subst, arith}
 use Rattle.std.proofs.lemmas.List.{take_at}
 use Rattle.std.proofs.lemmas.Bool.{le-ltb, ltb-false}
 use Rattle.std.proofs.lemmas.Bool.Decides.{not_from_Decides}
@@ -20,7 +20,6 @@ use Rattle.correction.specs.Proposals.{Proposes, worked}
 use Rattle.book.specs.declared.pattern.Pattern.{Pattern}
 use Rattle.mending.specs.Answers.{after_fault, zeros}
 use Rattle.mending.specs.Found.{Finding, Found}
-use Rattle.mending.proofs.Checking.{counted}
 
 -- the five tests, as they came out
 abbrev tests : (s t u v w : Bool) → Option CodeFault
@@ -140,8 +139,3 @@ module _ (C : Rows) (r w : ℕ) (b : Book) where
     settled_by es same next is-next =
         let row_is : next ≡ map sure f.meant = is-next ∙ ap (λ fs. map sure (subtracted C fs (row b))) same ∙ ap (map sure) f.subtracts in
         subst (λ d. Follows b (settle C r w) (listed (take i rs) i j) d) (sym row_is) (subst (λ a. Follows b (settle C r w) a (map sure f.meant)) (sym answer) (settles (one_near f.workable f.near)))
-
--- the records that change something, as they are counted
-pub nonzero_counted : (C : Rows) (nothing : ℕ) → C.nothing ≡ nothing → (cs : List Record) → count_by (λ c. not (eqb c.change nothing)) cs ≡ nonzero C cs
-nonzero_counted C nothing e cs =
-    ap (λ (n : ℕ). count_by (λ c. not (eqb c.change n)) cs) (sym e) ∙ counted (λ c. eqb c.change C.nothing) (nonzero C) refl (λ _ _. refl) cs

@@ -1,12 +1,13 @@
 -- A book of eight symbols is sealed by the finish code: it is within the limit, and four symbols are added.
-use Rattle.std.proofs.Common.{◌≡◌, ℕ, List, [], ◌∷◌, ◌++◌, map, length, Ok, refl, ap, ◌∙◌, arith}
-use Rattle.std.proofs.lemmas.List.{length-append, length-map, map-append}
+use Rattle.std.proofs.Common.{◌≡◌, ℕ, List, ◌++◌, map, length, Ok, refl, ap, ◌∙◌, arith}
+use Rattle.std.proofs.lemmas.List.{length-append, length-map}
 use Rattle.algebra.specs.Code as code
 use Rattle.algebra.specs.Code.{checks}
 use Rattle.algebra.proofs.Sealing.{length_seal}
 use Rattle.codes.specs.Finish.{finish}
 use Rattle.gf32.specs.Gf32.{gf32, gf32_numbers}
 use Rattle.book.specs.Book.{Book, after, row, sure}
+use Rattle.book.proofs.Rows.{row_append, row_sure}
 use Rattle.slip.specs.Sealing.{check_symbols, elements, seal}
 use Rattle.slip.proofs.Sealing.{seal_held}
 use Rattle.sheet.specs.Sealed.{sealed_row}
@@ -23,10 +24,6 @@ target_length : length finish.target ≡ checks finish
 unfolding finish
 target_length = refl
 
-row_sure : (symbols : List ℕ) → row (map sure symbols) ≡ symbols
-row_sure [] = refl
-row_sure (v ∷ symbols) = ap (λ (vs : List ℕ). v ∷ vs) (row_sure symbols)
-
 module _ (b : Book) (eight : length b ≡ 8) where
   pub eight_held : seal gf32_numbers gf32 finish b ≡ Ok (b ++ map sure (check_symbols gf32_numbers gf32 finish (row b)))
   eight_held = seal_held gf32_numbers gf32 finish b (omega arith) (omega (arith, four_checks, limit_31))
@@ -34,7 +31,7 @@ module _ (b : Book) (eight : length b ≡ 8) where
   pub eight_sealed : (next : Book) (symbols : List ℕ) → next ≡ after b (seal gf32_numbers gf32 finish b) → symbols ≡ row next → symbols ≡ sealed_row (row b)
   eight_sealed next symbols e s =
       let more = check_symbols gf32_numbers gf32 finish (row b) in
-      s ∙ ap row (e ∙ ap (after b) eight_held) ∙ map-append (λ p. p.symbol) b (map sure more) ∙ ap (λ ys. row b ++ ys) (row_sure more)
+      s ∙ ap row (e ∙ ap (after b) eight_held) ∙ row_append b (map sure more) ∙ ap (λ ys. row b ++ ys) (row_sure more)
 
   pub twelve_sealed : length (sealed_row (row b)) ≡ 12
   twelve_sealed =
