@@ -1,4 +1,3 @@
 pub mod Cutting
-pub mod OneTurn
 pub mod Putting
 pub mod Saying

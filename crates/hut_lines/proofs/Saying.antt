@@ -6,16 +6,13 @@ use Rattle.book.specs.Calls.{Answer, Follows, Mends, done, listed, lists, refuse
 use Rattle.book.specs.Codes.{Rows}
 use Rattle.book.specs.Mending.{changes, nonzero}
 use Rattle.book.specs.declared.record.Record.{Record}
+use Rattle.mending.proofs.Lessening.{row_sure}
 use Rattle.sheet.specs.Faults.{told}
 use Rattle.sheet.specs.ReadingOff.{read_off}
 use Rattle.sheet.specs.Taking.{take_line}
 use Rattle.sheet.specs.declared.fault.LineFault.{LineFault}
 use Rattle.hut_lines.specs.Shown.{OneWay, OnlySays, Says, not_taken, not_mended, not_read, finishes}
 use Rattle.hut_lines.specs.declared.reading.Reading.{Reading}
-
-row_sure : (n : List ℕ) → row (map sure n) ≡ n
-row_sure [] = refl
-row_sure (v ∷ n) = ap (λ (vs : List ℕ). v ∷ vs) (row_sure n)
 
 -- a line is not both taken and refused
 taken_refused : {X Y : Type 0} {r : Result X Y} {x : X} {y : Y} → r ≡ Ok x → r ≡ Err y → ⊥

@@ -1,7 +1,5 @@
-use Rattle.std.proofs.Common.{true, ap, ◌∙◌, rules}
-use Rattle.std.proofs.lemmas.List.{get_or_default}
+use Rattle.std.proofs.Common.{true}
 use Rattle.std.proofs.lemmas.Result.{err_from_is_err_and}
-use Rattle.book.specs.Book.{fresh, row}
 use Rattle.sheet.specs.Taking.{take_line}
 use Rattle.sheet.proofs.BytesTaken.{accepted, refused}
 use Rattle.hut_lines.specs.Shown.{finish_rows, not_mended}
@@ -14,17 +12,18 @@ returns-in_err-take_line c =
     let p = err_from_is_err_and c.from_residual.result c.from_residual.ensures.1 in
     rw (p.1, p.2) (only_refused finish_rows line _ (refused (take_line true line) _ c.in_err-take_line.ensures.answer))
 
-pub returns-in-Refused : goal.returns-in-Refused
-returns-in-Refused c =
+pub returns-in_err-listing : goal.returns-in_err-listing
+returns-in_err-listing c =
     let line = c.args.line.now in
     let b = c.take_line.new.slip in
     let told = c.in_ok-take_line.ensures in
     let taken = accepted (take_line true line) b told.answer told.book in
-    let settled = c.in-Refused.ensures in
-    only finish_rows settled.decided line b taken _ (not_mended taken (settle_refused settled.follows))
+    let settled = c.in_err-listing.ensures in
+    let p = err_from_is_err_and c.from_residual-in_err-listing.result c.from_residual-in_err-listing.ensures.1 in
+    rw (p.1, p.2) (only finish_rows settled.decided line b taken _ (not_mended taken (settle_refused settled.follows)))
 
 pub unreachable-requires : goal.unreachable-requires
-unreachable-requires c = settle_not_done c.in-Done.ensures.follows
+unreachable-requires c = settle_not_done (rw c.in_default.is at c.in_ok-listing.ensures.follows)
 
 pub returns-in_err-sail : goal.returns-in_err-sail
 returns-in_err-sail c =
@@ -32,10 +31,9 @@ returns-in_err-sail c =
     let b = c.take_line.new.slip in
     let told = c.in_ok-take_line.ensures in
     let taken = accepted (take_line true line) b told.answer told.book in
-    let settled = c.in-Listed.ensures in
-    let is_row = c.symbols.ensures.row ∙ ap row (get_or_default c.settle.new.slips 0 _ fresh (search rules)) in
+    let follows = rw c.in-Listed.is at c.in_ok-listing.ensures.follows in
     let p = err_from_is_err_and c.from_residual-in_err-sail.result c.from_residual-in_err-sail.ensures.1 in
-    rw (p.1, p.2) (only_unread finish_rows settled.decided line b taken settled.follows _ is_row _ c.in_err-sail.ensures)
+    rw (p.1, p.2) (only_unread finish_rows c.settle.ensures.decided line b taken follows _ c.symbols.ensures.row _ c.in_err-sail.ensures)
 
 pub returns : goal.returns
 returns c =
@@ -43,7 +41,6 @@ returns c =
     let b = c.take_line.new.slip in
     let told = c.in_ok-take_line.ensures in
     let taken = accepted (take_line true line) b told.answer told.book in
-    let settled = c.in-Listed.ensures in
-    let is_row = c.symbols.ensures.row ∙ ap row (get_or_default c.settle.new.slips 0 _ fresh (search rules)) in
+    let follows = rw c.in-Listed.is at c.in_ok-listing.ensures.follows in
     rw c.nonzero.ensures
-    (only_read finish_rows settled.decided line b taken settled.follows _ is_row _ _ c.in_ok-sail.ensures)
+    (only_read finish_rows c.settle.ensures.decided line b taken follows _ c.symbols.ensures.row _ _ c.in_ok-sail.ensures)
