@@ -1,4 +1,3 @@
 pub mod Counted
-pub mod OneTurn
 pub mod Putting
 pub mod Saying

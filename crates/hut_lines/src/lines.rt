@@ -1,6 +1,5 @@
 // A typed line, and its output line.
-ghost use Rattle.std.specs.Prelude.{◌≡◌, slice_index_or};
-ghost use Rattle.book.specs.Book.{fresh};
+ghost use Rattle.std.specs.Prelude.{◌≡◌};
 ghost use Rattle.book.specs.Calls.{Follows, settle};
 ghost use Rattle.hut_lines.specs.Shown.{OneWay, OnlySays, Shown, finish_rows, shown};
 ghost use Rattle.script.specs.Script.{heard};
@@ -17,6 +16,7 @@ use sheet::reading_off::{read_off, whole_seconds};
 use sheet::taking::take_line;
 use slip::slip::Slip;
 use std::marker::PhantomData;
+use std::slice;
 
 // What a settle is lent. No code asks for more.
 const LENT: Lent = Lent {
@@ -61,12 +61,12 @@ fn told_of(number: usize, outcome: Result<Reading, Refusal>) -> Told
 fn finish(line: &[u8]) -> Result<Reading, Refusal>
     ensures { OnlySays finish_rows line.now result }
 {
-    let mut slips = [Slip::new()];
-    take_line(&mut slips[0], line)?;
-    let Answer::Listed(listing) = settle(&mut slips)? else {
+    let mut slip = Slip::new();
+    take_line(&mut slip, line)?;
+    let Answer::Listed(listing) = settle(&mut slip)? else {
         unreachable()
     };
-    let (sail, tenths) = read_off(slips[0].symbols())?;
+    let (sail, tenths) = read_off(slip.symbols())?;
     Ok(Reading {
         changes: listing.nonzero(),
         sail,
@@ -74,9 +74,9 @@ fn finish(line: &[u8]) -> Result<Reading, Refusal>
     })
 }
 
-// Settles the only slip by the finish code: a script of one turn.
-fn settle(slips: &mut [Slip; 1]) -> Reply
-    ensures follows { Follows (slice_index_or slips.old 0 fresh) (settle finish_rows 16 216) (heard result) (slice_index_or slips.new 0 fresh) }
+// Settles a slip by the finish code: a script of one turn, on the only slip.
+fn settle(slip: &mut Slip) -> Reply
+    ensures follows { Follows slip.old (settle finish_rows 16 216) (heard result) slip.new }
     ensures decided { OneWay finish_rows }
 {
     let code = One::<Finish> { code: PhantomData };
@@ -85,6 +85,6 @@ fn settle(slips: &mut [Slip; 1]) -> Reply
         ask: Ask::Settle(code, LENT),
     }];
     let mut replies = [Ok(Answer::Done)];
-    run(slips, &turns, &mut replies, &mut One::<Finish>::desk());
+    run(slice::from_mut(slip), &turns, &mut replies, &mut One::<Finish>::desk());
     replies[0]
 }

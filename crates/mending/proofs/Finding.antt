@@ -1,7 +1,7 @@
 -- From a proposal and what the checker says of it to the answers of solve and settle. Assumes nothing.
-use Rattle.std.proofs.Common.{◌≡◌, ℕ, ◌+◌, ◌*◌, ◌<◌, ◌≤◌, Bool, true, false, cond, ltb, leb, Decides, List, [], ◌∷◌, ◌++◌, map, length, take, drop, Some, None, Ok, Option, sym, refl, ap, ◌∙◌, subst, arith}
+use Rattle.std.proofs.Common.{◌≡◌, ℕ, ◌+◌, ◌*◌, ◌<◌, ◌≤◌, Bool, true, false, cond, eqb, ltb, leb, Decides, List, [], ◌∷◌, ◌++◌, count_by, map, length, not, take, drop, Some, None, Ok, Option, sym, refl, ap, ◌∙◌, subst, arith}
 use Rattle.std.proofs.lemmas.List.{take_at}
-use Rattle.std.proofs.lemmas.Bool.{le-ltb, ltb-false}
+use Rattle.std.proofs.lemmas.Bool.{ltb-false}
 use Rattle.std.proofs.lemmas.Bool.Decides.{not_from_Decides}
 use Rattle.std.specs.Option.{MatchOption, ok_or}
 use Rattle.std.specs.Bool.{then_some}
@@ -16,9 +16,8 @@ use Rattle.book.specs.declared.code_fault.CodeFault.{CodeFault}
 use Rattle.book.specs.declared.code_fault.CodeFault.TheVariants.{Short, Long, Records, Working, Doubts, Unfit}
 use Rattle.book.specs.declared.record.Record.{Record}
 use Rattle.book.proofs.Fitting.{changes_fit, few_changes, fits_near}
-use Rattle.correction.specs.Proposals.{Proposes, worked}
+use Rattle.correction.specs.Proposals.{Proposes}
 use Rattle.book.specs.declared.pattern.Pattern.{Pattern}
-use Rattle.mending.specs.Answers.{after_fault, zeros}
 use Rattle.mending.specs.Found.{Finding, Found}
 
 -- the five tests, as they came out
@@ -31,30 +30,6 @@ none_true false true u v w q = let z : ◌≡◌ {A = ℕ} 0 1 = cc in absurd (o
 none_true false false true v w q = let z : ◌≡◌ {A = ℕ} 0 1 = cc in absurd (omega arith)
 none_true false false false true w q = let z : ◌≡◌ {A = ℕ} 0 1 = cc in absurd (omega arith)
 none_true false false false false w q = (refl, refl, refl)
-
-never_unfit : (s t u v w : Bool) → tests s t u v w ≡ Some Unfit → ⊥
-never_unfit true t u v w q = let z : ◌≡◌ {A = ℕ} 0 1 = cc in omega arith
-never_unfit false true u v w q = let z : ◌≡◌ {A = ℕ} 0 1 = cc in omega arith
-never_unfit false false true v w q = let z : ◌≡◌ {A = ℕ} 0 1 = cc in omega arith
-never_unfit false false false true w q = let z : ◌≡◌ {A = ℕ} 0 1 = cc in omega arith
-never_unfit false false false false true q = let z : ◌≡◌ {A = ℕ} 0 1 = cc in omega arith
-never_unfit false false false false false q = let z : ◌≡◌ {A = ℕ} 0 1 = cc in omega arith
-
-module _ {E : Type 0} (F : FieldOn E) (work : List E) where
-  kept : (s t u v w : Bool) (fault : CodeFault) → tests s t u v w ≡ Some fault → work ≡ after_fault F fault work
-  kept s t u v w Short q = refl
-  kept s t u v w Long q = refl
-  kept s t u v w Records q = refl
-  kept s t u v w Working q = refl
-  kept s t u v w Doubts q = refl
-  kept s t u v w Unfit q = absurd (never_unfit s t u v w q)
-
-  pub fault_kept : (C : Rows) (r w : ℕ) (b : Book) (fault : CodeFault) → unmendable C r w b ≡ Some fault → work ≡ after_fault F fault work
-  fault_kept C r w b fault q = kept (leb (length b) C.checks) (ltb C.limit (length b)) (ltb r C.bound) (ltb w (12 * (C.bound + 2))) (ltb C.bound (doubts b)) fault q
-
--- how a search leaves the working list
-pub worked_zeros : {E : Type 0} (F : FieldOn E) (bound : ℕ) (work next : List E) → 12 * (bound + 2) ≤ length work → next ≡ worked F bound work → next ≡ zeros F work
-worked_zeros F bound work next h e = e ∙ ap (λ t. cond t work (zeros F work)) (le-ltb (length work) (12 * (bound + 2)) h)
 
 -- the number of ZERO, as the code works it out
 pub zero_number : {S : Type 0} (N : Numbers S) (F : FieldOn S) (z : S) (n : ℕ) → z ≡ F.𝟘 → n ≡ N.number z → N.number F.𝟘 ≡ n

@@ -6,6 +6,7 @@
 --   FreshStories   the same of fresh slips
 --   Decided        the book and the call decide the answer and the book after
 --   Untouched      where nothing was asked, a reply is as it was
+--   Few            a list of at most sixteen records
 use Rattle.std.specs.Prelude.{◌≡◌, ℕ, zero, suc, ◌<◌, ◌≤◌, cond, List, [], ◌∷◌, length, Ok, Err, Result, ◌==◌, slice_index_or}
 use Rattle.algebra.specs.Series.{All}
 use Rattle.book.specs.Book.{Book, fresh}
@@ -13,6 +14,7 @@ use Rattle.book.specs.Calls as calls
 use Rattle.book.specs.Calls.{Call, Follows, write, blank, doubt, wipe, seal, solve, settle, done, refused, listed}
 use Rattle.book.specs.Codes.{Rows}
 use Rattle.book.specs.Story.{Leads, Story}
+use Rattle.book.specs.declared.code_fault.CodeFault.{CodeFault}
 use Rattle.field.specs.declared.fault.Refusal.{Refusal}
 use Rattle.script.specs.declared.script.Answer.{Answer}
 use Rattle.script.specs.declared.script.Answer.TheVariants.{Done, Listed}
@@ -61,3 +63,7 @@ Unasked m (t ∷ ts) (suc j) = Unasked m ts j
 
 abbrev pub Untouched : {K : Type 0} → ℕ → List (Turn K) → List Replied → List Replied → Type 0
 Untouched m ts was is = (j : ℕ) (default : Replied) → Unasked m ts j → slice_index_or is j default ≡ slice_index_or was j default
+
+abbrev pub Few : Result (ℕ × ℕ) CodeFault → Type 0
+Few (Ok n) = n.0 ≤ 16
+Few (Err fault) = Unit {0}

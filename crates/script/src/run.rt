@@ -1,12 +1,14 @@
 // Running a script.
-ghost use Rattle.std.specs.Prelude.{◌≡◌, ◌≤◌, length};
-ghost use Rattle.book.specs.Calls.{Follows, listed, solve, settle};
+ghost use Rattle.std.specs.Prelude.{◌≡◌, length};
+ghost use Rattle.book.specs.Calls.{Follows, solve, settle};
 ghost use Rattle.book.specs.Promise.{Promise};
-ghost use Rattle.script.specs.Script.{asked, heard, Stories, FreshStories, Decided, Untouched};
+ghost use Rattle.mending.specs.Answers.{told_list};
+ghost use Rattle.script.specs.Script.{asked, heard, Few, Stories, FreshStories, Decided, Untouched};
 
 use crate::codes::CodeSet;
 use crate::listing::Listing;
 use crate::script::{Answer, Ask, Lent, Reply, Turn};
+use book::code_fault::CodeFault;
 use book::pattern::Pattern;
 use book::record::{BLANK, Record};
 use slip::slip::Slip;
@@ -63,25 +65,28 @@ fn solve_turn<K: CodeSet>(slip: &Slip, code: K, lent: Lent, desk: &mut K::Desk) 
     K::laws();
     let mut records = [BLANK; 16];
     let room = lent.records.min(16);
-    let (written, nonzero) = code.solve(slip, &mut records[..room], lent.working, desk)?;
-    Ok(listing(&records[..written], nonzero))
+    let found = code.solve(slip, &mut records[..room], lent.working, desk);
+    reply(found, &records)
 }
 
-// The same of a settle. Two functions, since a solve only reads the slip: a closure for either would need clauses for what it
-// does to the slip, the records and the desk, longer than these lines.
+// The same of a settle. The two are not one function that takes the call as a closure: it would have to require of the call
+// that it lists no more than it is lent, and to tell what became of the slip that only one of them changes.
 fn settle_turn<K: CodeSet>(slip: &mut Slip, code: K, lent: Lent, desk: &mut K::Desk) -> Reply
     ensures { Follows slip.old (settle (K.CodeSet.rows code) lent.records lent.working) (heard result) slip.new }
 {
     K::laws();
     let mut records = [BLANK; 16];
     let room = lent.records.min(16);
-    let (written, nonzero) = code.settle(slip, &mut records[..room], lent.working, desk)?;
-    Ok(listing(&records[..written], nonzero))
+    let found = code.settle(slip, &mut records[..room], lent.working, desk);
+    reply(found, &records)
 }
 
-fn listing(records: &[Record], nonzero: usize) -> Answer
-    requires { length records.now ≤ 16 }
-    ensures { heard (Ok result) ≡ listed records.now (length records.now) nonzero }
+// What is told of a search by its answer and by the records that it was lent.
+fn reply(found: Result<(usize, usize), CodeFault>, records: &[Record; 16]) -> Reply
+    requires { Few found }
+    ensures { heard result ≡ told_list found records.now }
 {
-    Answer::Listed(Listing::new(Pattern::from_slice(records).unwrap(), nonzero))
+    let (written, nonzero) = found?;
+    let listed = Pattern::from_slice(&records[..written]).unwrap();
+    Ok(Answer::Listed(Listing::new(listed, nonzero)))
 }

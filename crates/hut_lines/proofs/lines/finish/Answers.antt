@@ -1,7 +1,5 @@
-use Rattle.std.proofs.Common.{true, ap, ◌∙◌, rules}
-use Rattle.std.proofs.lemmas.List.{get_or_default}
+use Rattle.std.proofs.Common.{true}
 use Rattle.std.proofs.lemmas.Result.{err_from_is_err_and}
-use Rattle.book.specs.Book.{fresh, row}
 use Rattle.sheet.specs.Taking.{take_line}
 use Rattle.sheet.proofs.BytesTaken.{accepted, refused}
 use Rattle.hut_lines.specs.Shown.{finish_rows, not_mended}
@@ -25,10 +23,7 @@ returns-in_err-listing c =
     rw (p.1, p.2) (only finish_rows settled.decided line b taken _ (not_mended taken (settle_refused settled.follows)))
 
 pub unreachable-requires : goal.unreachable-requires
-unreachable-requires c =
-    let settled = c.in_ok-listing.ensures in
-    let none_listed = rw c.in_default.is at settled.follows in
-    settle_not_done none_listed
+unreachable-requires c = settle_not_done (rw c.in_default.is at c.in_ok-listing.ensures.follows)
 
 pub returns-in_err-sail : goal.returns-in_err-sail
 returns-in_err-sail c =
@@ -36,11 +31,9 @@ returns-in_err-sail c =
     let b = c.take_line.new.slip in
     let told = c.in_ok-take_line.ensures in
     let taken = accepted (take_line true line) b told.answer told.book in
-    let settled = c.in_ok-listing.ensures in
-    let listed = rw c.in-Listed.is at settled.follows in
-    let is_row = c.symbols.ensures.row ∙ ap row (get_or_default c.settle.new.slips 0 _ fresh (search rules)) in
+    let follows = rw c.in-Listed.is at c.in_ok-listing.ensures.follows in
     let p = err_from_is_err_and c.from_residual-in_err-sail.result c.from_residual-in_err-sail.ensures.1 in
-    rw (p.1, p.2) (only_unread finish_rows settled.decided line b taken listed _ is_row _ c.in_err-sail.ensures)
+    rw (p.1, p.2) (only_unread finish_rows c.settle.ensures.decided line b taken follows _ c.symbols.ensures.row _ c.in_err-sail.ensures)
 
 pub returns : goal.returns
 returns c =
@@ -48,8 +41,6 @@ returns c =
     let b = c.take_line.new.slip in
     let told = c.in_ok-take_line.ensures in
     let taken = accepted (take_line true line) b told.answer told.book in
-    let settled = c.in_ok-listing.ensures in
-    let listed = rw c.in-Listed.is at settled.follows in
-    let is_row = c.symbols.ensures.row ∙ ap row (get_or_default c.settle.new.slips 0 _ fresh (search rules)) in
+    let follows = rw c.in-Listed.is at c.in_ok-listing.ensures.follows in
     rw c.nonzero.ensures
-    (only_read finish_rows settled.decided line b taken listed _ is_row _ _ c.in_ok-sail.ensures)
+    (only_read finish_rows c.settle.ensures.decided line b taken follows _ c.symbols.ensures.row _ _ c.in_ok-sail.ensures)

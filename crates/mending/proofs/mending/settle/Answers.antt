@@ -1,13 +1,9 @@
-use Rattle.std.proofs.Common.{◌<◌, length}
+use Rattle.std.proofs.Common.{length}
 use Rattle.std.proofs.lemmas.Result.{err_from_is_err_and}
 use Rattle.book.specs.Calls.{settles}
 use Rattle.book.specs.Codes.{rows_of}
 use Rattle.mending.proofs.Finding.{settled_by}
-use Rattle.mending.proofs.Lessening.{at_each}
 use Rattle.mending.proofs.mending.settle.Goals as goal
-
-pub mended-requires : goal.mended-requires
-mended-requires g c = rw c.records.ensures (at_each (λ r. r.change < 32) c.in_ok-pattern.pattern c.in_ok-pattern.ensures.found.symbols)
 
 pub returns-in_err-pattern-clause-follows : goal.returns-in_err-pattern-clause-follows
 returns-in_err-pattern-clause-follows g c =
