@@ -1,5 +1,5 @@
 -- What a typed line says, and that it says nothing else.
-use Rattle.std.proofs.Common.{◌≡◌, ℕ, true, List, [], ◌∷◌, map, Some, None, Ok, Err, Option, Result, sym, refl, ap, ◌∙◌, subst, ap₂, arith}
+use Rattle.std.proofs.Common.{◌≡◌, ℕ, true, List, map, Some, None, Ok, Err, Option, Result, sym, refl, ap, ◌∙◌, subst, ap₂}
 use Rattle.field.specs.declared.fault.Refusal.{Refusal}
 use Rattle.book.specs.Book.{Book, row, sure}
 use Rattle.book.specs.Calls.{Answer, Follows, Mends, done, listed, lists, refused, settle, settled, settles, barred, none_near, one_near}
@@ -16,7 +16,7 @@ use Rattle.hut_lines.specs.declared.reading.Reading.{Reading}
 
 -- a line is not both taken and refused
 taken_refused : {X Y : Type 0} {r : Result X Y} {x : X} {y : Y} → r ≡ Ok x → r ≡ Err y → ⊥
-taken_refused e f = let z : ◌≡◌ {A = ℕ} 0 1 = cc in omega arith
+taken_refused e f = cc
 
 same_ok : {X Y : Type 0} {r : Result X Y} {x y : X} → r ≡ Ok x → r ≡ Ok y → x ≡ y
 same_ok e f = cc
@@ -38,19 +38,19 @@ module _ (C : Rows) (line : List ℕ) (fault : LineFault) (e : take_line true li
 module _ {C : Rows} {r w : ℕ} {b : Book} where
   mends_listed : {a : Answer} {found : Option (List ℕ)} {cs : List Record} {i j : ℕ} → Mends C r w b a found → a ≡ listed cs i j
       → (n : List ℕ) × Mends C r w b (lists C b n) (Some n) × (j ≡ nonzero C (changes C b n)) × (settled b found ≡ map sure n)
-  mends_listed (barred f) e = let z : ◌≡◌ {A = ℕ} 0 1 = cc in absurd (omega arith)
-  mends_listed (none_near f none) e = let z : ◌≡◌ {A = ℕ} 0 1 = cc in absurd (omega arith)
+  mends_listed (barred f) e = cc
+  mends_listed (none_near f none) e = cc
   mends_listed (one_near {n = n} f near) e = (n, one_near f near, cc, refl)
 
   mends_refused : {a : Answer} {found : Option (List ℕ)} {why : Refusal} → Mends C r w b a found → a ≡ refused why → Mends C r w b (refused why) None
   mends_refused (barred f) e = subst (λ x. Mends C r w b x None) e (barred f)
   mends_refused (none_near f none) e = subst (λ x. Mends C r w b x None) e (none_near f none)
-  mends_refused (one_near f near) e = let z : ◌≡◌ {A = ℕ} 0 1 = cc in absurd (omega arith)
+  mends_refused (one_near f near) e = cc
 
   mends_not_done : {a : Answer} {found : Option (List ℕ)} → Mends C r w b a found → a ≡ done → ⊥
-  mends_not_done (barred f) e = let z : ◌≡◌ {A = ℕ} 0 1 = cc in omega arith
-  mends_not_done (none_near f none) e = let z : ◌≡◌ {A = ℕ} 0 1 = cc in omega arith
-  mends_not_done (one_near f near) e = let z : ◌≡◌ {A = ℕ} 0 1 = cc in omega arith
+  mends_not_done (barred f) e = cc
+  mends_not_done (none_near f none) e = cc
+  mends_not_done (one_near f near) e = cc
 
 pub settle_listed : {C : Rows} {r w : ℕ} {b d : Book} {cs : List Record} {i j : ℕ} → Follows b (settle C r w) (listed cs i j) d
     → (n : List ℕ) × Mends C r w b (lists C b n) (Some n) × (j ≡ nonzero C (changes C b n)) × (d ≡ map sure n)
@@ -86,7 +86,7 @@ module _ (C : Rows) (decided : OneWay C) (line : List ℕ) (b : Book) (taken : t
   one_row {n = n} {n' = n'} m k = sym (row_sure n) ∙ ap row (decided b _ _ _ _ (settles m) (settles k)).1 ∙ row_sure n'
 
   not_both : {X : Type 0} {why : Refusal} {cs : List Record} {i j : ℕ} {found found' : Option (List ℕ)} → Mends C 16 216 b (refused why) found → Mends C 16 216 b (listed cs i j) found' → X
-  not_both m k = let e = one_answer m k in let z : ◌≡◌ {A = ℕ} 0 1 = cc in absurd (omega arith)
+  not_both m k = let e = one_answer m k in cc
 
   same_why : {why why' : Refusal} → ◌≡◌ {A = Answer} (refused why) (refused why') → why ≡ why'
   same_why e = cc

@@ -1,35 +1,22 @@
 -- From a proposal and what the checker says of it to the answers of solve and settle. Assumes nothing.
 use Rattle.std.proofs.Common.{◌≡◌, ℕ, ◌+◌, ◌*◌, ◌<◌, ◌≤◌, Bool, true, false, cond, eqb, ltb, leb, Decides, List, [], ◌∷◌, ◌++◌, count_by, map, length, not, take, drop, Some, None, Ok, Option, sym, refl, ap, ◌∙◌, subst, arith}
 use Rattle.std.proofs.lemmas.List.{take_at}
-use Rattle.std.proofs.lemmas.Bool.{ltb-false}
-use Rattle.std.proofs.lemmas.Bool.Decides.{not_from_Decides}
+use Rattle.std.proofs.lemmas.Bool.Decides.{nat_tests, not_from_Decides}
 use Rattle.std.specs.Option.{MatchOption, ok_or}
 use Rattle.std.specs.Bool.{then_some}
 use Rattle.algebra.specs.Field.{FieldOn, Numbers}
 use Rattle.algebra.specs.Series.{All}
-use Rattle.book.specs.Book.{Book, doubts, row, sure}
-use Rattle.book.specs.Calls.{Follows, Mends, first_of, listed, lists, none_near, one_near, refused, settle, settles, solve, solves, unmendable}
+use Rattle.book.specs.Book.{Book, row, sure}
+use Rattle.book.specs.Calls.{Follows, Mends, listed, lists, none_near, one_near, refused, settle, settles, solve, solves, unmendable}
 use Rattle.book.specs.CodeFaults.{told}
 use Rattle.book.specs.Codes.{Lawful, Near, Rows}
 use Rattle.book.specs.Mending.{Fits, changes, nonzero, subtracted}
-use Rattle.book.specs.declared.code_fault.CodeFault.{CodeFault}
-use Rattle.book.specs.declared.code_fault.CodeFault.TheVariants.{Short, Long, Records, Working, Doubts, Unfit}
+use Rattle.book.specs.declared.code_fault.CodeFault.TheVariants.{Unfit}
 use Rattle.book.specs.declared.record.Record.{Record}
 use Rattle.book.proofs.Fitting.{changes_fit, few_changes, fits_near}
 use Rattle.correction.specs.Proposals.{Proposes}
 use Rattle.book.specs.declared.pattern.Pattern.{Pattern}
 use Rattle.mending.specs.Found.{Finding, Found}
-
--- the five tests, as they came out
-abbrev tests : (s t u v w : Bool) → Option CodeFault
-tests s t u v w = first_of ((s, Short) ∷ (t, Long) ∷ (u, Records) ∷ (v, Working) ∷ (w, Doubts) ∷ [])
-
-none_true : (s t u v w : Bool) → tests s t u v w ≡ None → (t ≡ false) × (u ≡ false) × (v ≡ false)
-none_true true t u v w q = let z : ◌≡◌ {A = ℕ} 0 1 = cc in absurd (omega arith)
-none_true false true u v w q = let z : ◌≡◌ {A = ℕ} 0 1 = cc in absurd (omega arith)
-none_true false false true v w q = let z : ◌≡◌ {A = ℕ} 0 1 = cc in absurd (omega arith)
-none_true false false false true w q = let z : ◌≡◌ {A = ℕ} 0 1 = cc in absurd (omega arith)
-none_true false false false false w q = (refl, refl, refl)
 
 -- the number of ZERO, as the code works it out
 pub zero_number : {S : Type 0} (N : Numbers S) (F : FieldOn S) (z : S) (n : ℕ) → z ≡ F.𝟘 → n ≡ N.number z → N.number F.𝟘 ≡ n
@@ -43,13 +30,11 @@ module _ (C : Rows) (r w : ℕ) (b : Book) where
     pub working : 12 * (C.bound + 2) ≤ w
 
   pub able : unmendable C r w b ≡ None → Able
-  able q =
-      let f = none_true (leb (length b) C.checks) (ltb C.limit (length b)) (ltb r C.bound) (ltb w (12 * (C.bound + 2))) (ltb C.bound (doubts b)) q in
-      record {
-        short = ltb-false C.limit (length b) f.0;
-        room = ltb-false r C.bound f.1;
-        working = ltb-false w (12 * (C.bound + 2)) f.2;
-      }
+  able q = record {
+    short = grind (arith, nat_tests);
+    room = grind (arith, nat_tests);
+    working = grind (arith, nat_tests);
+  }
 
   module _ (law : Lawful C) (below : All (λ v. v < 32) (row b)) (none : unmendable C r w b ≡ None) where
     symbols : All (λ v. v < C.size) (row b)
@@ -85,7 +70,7 @@ module _ (C : Rows) (r w : ℕ) (b : Book) where
     none_found proposes = none_near none (λ n near.
         let can = able none in
         let same : None ≡ Some (changes C b n) = proposes n can.short can.working near in
-        let z : ◌≡◌ {A = ℕ} 0 1 = cc in omega arith)
+        cc)
 
     -- a proposal that does not fit says that no row is near
     pub checked : (proposed kept : Option Pattern) (Answers : Pattern → Bool → Type 0) → ((p : Pattern) (t : Bool) → Answers p t → Decides t (Fits C b p))
