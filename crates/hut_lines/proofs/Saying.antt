@@ -1,5 +1,5 @@
 -- What a typed line says, and that it says nothing else.
-use Rattle.std.proofs.Common.{◌≡◌, ℕ, true, List, [], ◌∷◌, map, Some, None, Ok, Err, Option, Result, sym, refl, ap, ◌∙◌, subst, ap₂, arith}
+use Rattle.std.proofs.Common.{◌≡◌, ℕ, true, List, map, Some, None, Ok, Err, Option, Result, sym, refl, ap, ◌∙◌, subst, ap₂, arith}
 use Rattle.field.specs.declared.fault.Refusal.{Refusal}
 use Rattle.book.specs.Book.{Book, row, sure}
 use Rattle.book.specs.Calls.{Answer, Follows, Mends, done, listed, lists, refused, settle, settled, settles, barred, none_near, one_near}
