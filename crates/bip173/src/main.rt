@@ -3,7 +3,7 @@
 // what the string means. A string that cannot be read ends the run.
 #![tactic(auto)]
 
-use anyhow::anyhow;
+use anyhow::{Context, anyhow, ensure};
 use checksum::checksum::Checksum;
 use checksum::engine::is_sound;
 use codes::bech32::Bech32;
@@ -14,18 +14,16 @@ use std::alloc::Global;
 use std::io::{BufRead, BufReader};
 
 fn symbol(number: u8) -> anyhow::Result<Fe32> {
-    match Fe32::from_number(u16::from(number)) {
-        Some(symbol) => Ok(symbol),
-        None => Err(anyhow!("a symbol above 31")),
-    }
+    Fe32::from_number(u16::from(number)).context("a symbol above 31")
 }
 
 // The human-readable part as symbols: the high bits of each character, ZERO, and the low five bits of each, in small letters.
 fn expand(row: &mut Vec<Fe32>, part: &str) -> anyhow::Result<()> {
+    ensure!(
+        part.bytes().all(|byte| byte.is_ascii_graphic()),
+        "a byte in the human-readable part that nobody can read"
+    );
     for byte in part.bytes() {
-        if !byte.is_ascii_graphic() {
-            return Err(anyhow!("a byte in the human-readable part that nobody can read"));
-        }
         row.push(symbol(byte.to_ascii_lowercase() >> 5)?)?;
     }
     row.push(Fe32::ZERO)?;
@@ -37,14 +35,12 @@ fn expand(row: &mut Vec<Fe32>, part: &str) -> anyhow::Result<()> {
 
 // The last 1 parts the human-readable part from the data.
 fn read_string(heap: Global, text: &str) -> anyhow::Result<Vec<Fe32>> {
-    let Some((part, characters)) = text.rsplit_once('1') else {
-        return Err(anyhow!("a string without a 1"));
-    };
+    let (part, characters) = text.rsplit_once('1').context("a string without a 1")?;
     let mut row = Vec::new(heap);
     expand(&mut row, part)?;
     for byte in characters.bytes() {
         match read_character(byte) {
-            Character::Symbol(number) => row.push(symbol(number)?)?,
+            Some(Character::Symbol(number)) => row.push(symbol(number)?)?,
             _ => return Err(anyhow!("a data character outside the set")),
         }
     }

@@ -1,7 +1,8 @@
 -- A pattern that fits leads to a near row, and the changes to a near row are a pattern that fits. Assumes nothing.
-use Rattle.std.proofs.Common.{◌≡◌, ℕ, zero, suc, ◌+◌, ◌-◌, ◌<◌, ◌≤◌, Bool, true, false, cond, not, ◌&&◌, List, [], ◌∷◌, ◌++◌, length, get_or, take, drop, set, sym, refl, ap, ◌∙◌, subst, arith, length-append}
+use Rattle.std.proofs.Common.{◌≡◌, ℕ, zero, suc, ◌+◌, ◌-◌, ◌<◌, ◌≤◌, Bool, true, false, cond, not, ◌&&◌, List, [], ◌∷◌, ◌++◌, length, get_or, take, drop, set, sym, refl, ap, ap₂, ◌∙◌, subst, arith, length-append}
 use native.Mathlib.Decide.{ℕ_discrete}
-use Rattle.std.proofs.lemmas.List.{length-set}
+use Rattle.std.proofs.lemmas.List.{length-map, length-set}
+use Rattle.std.proofs.lemmas.List.Sums.{count_by-le-length, sum_by-append, sum_by-cons}
 use Rattle.std.proofs.lemmas.Bool.{both_ways}
 use Rattle.algebra.specs.Rows.{count, refuted, wrong_places, doubted_places, errors}
 use Rattle.algebra.specs.Series.{All, Mem, here, there}
@@ -14,10 +15,6 @@ use Rattle.book.specs.declared.record.Record.{Record}
 use Rattle.book.proofs.Doubts.{doubts_places}
 use Rattle.book.proofs.Subtracting.{changes_subtracted}
 
-pub row_length : (b : Book) → length (row b) ≡ length b
-row_length [] = refl
-row_length (a ∷ b) = ap suc (row_length b)
-
 -- no place is wrong by the book's own row
 errors_row : (b : Book) → errors ℕ_discrete b (row b) ≡ 0
 errors_row [] = refl
@@ -29,12 +26,12 @@ errors_row (a ∷ b) = by a.doubted (ℕ_discrete a.symbol a.symbol) (errors_row
     by false (no q) h = absurd (q refl)
 
 -- one symbol set makes at most one place wrong, and none if it is doubted
-errors_set : (b : Book) (vs : List ℕ) (p v : ℕ) → errors ℕ_discrete b (set vs p v) ≤ errors ℕ_discrete b vs + cond (doubted_at p b) 0 1
+errors_set : (b : Book) (vs : List ℕ) (p v : ℕ) → errors ℕ_discrete b (set vs p v) ≤ errors ℕ_discrete b vs + cond (not (doubted_at p b)) 1 0
 errors_set [] vs p v = omega arith
 errors_set (a ∷ b) [] p v = omega arith
 errors_set (a ∷ b) (x ∷ vs) zero v = by a.doubted (refuted (ℕ_discrete a.symbol v)) (refuted (ℕ_discrete a.symbol x)) (wrong_places ℕ_discrete b vs)
   where
-    by : (d s t : Bool) (fs : List Bool) → count ((not d && s) ∷ fs) ≤ count ((not d && t) ∷ fs) + cond d 0 1
+    by : (d s t : Bool) (fs : List Bool) → count ((not d && s) ∷ fs) ≤ count ((not d && t) ∷ fs) + cond (not d) 1 0
     by true s t fs = omega arith
     by false true true fs = omega arith
     by false true false fs = omega arith
@@ -42,8 +39,8 @@ errors_set (a ∷ b) (x ∷ vs) zero v = by a.doubted (refuted (ℕ_discrete a.s
     by false false false fs = omega arith
 errors_set (a ∷ b) (x ∷ vs) (suc p) v = by (wrong a x) (errors_set b vs p v)
   where
-    by : (t : Bool) → count (wrong_places ℕ_discrete b (set vs p v)) ≤ count (wrong_places ℕ_discrete b vs) + cond (doubted_at p b) 0 1
-        → count (t ∷ wrong_places ℕ_discrete b (set vs p v)) ≤ count (t ∷ wrong_places ℕ_discrete b vs) + cond (doubted_at p b) 0 1
+    by : (t : Bool) → count (wrong_places ℕ_discrete b (set vs p v)) ≤ count (wrong_places ℕ_discrete b vs) + cond (not (doubted_at p b)) 1 0
+        → count (t ∷ wrong_places ℕ_discrete b (set vs p v)) ≤ count (t ∷ wrong_places ℕ_discrete b vs) + cond (not (doubted_at p b)) 1 0
     by true h = omega arith
     by false h = h
 
@@ -59,7 +56,7 @@ module _ (C : Rows) where
       let v = C.less (get_or vs c.place 0) c.change in
       let one = errors_set b vs c.place v in
       let rest = errors_subtracted b cs (set vs c.place v) in
-      omega arith
+      omega (arith, sum_by-cons (λ d. cond (not (doubted_at d.place b)) 1 0) c cs)
 
   pub length_subtracted : (cs : List Record) (vs : List ℕ) → length (subtracted C cs vs) ≡ length vs
   length_subtracted [] vs = refl
@@ -68,7 +65,7 @@ module _ (C : Rows) where
   pub fits_near : (b : Book) (cs : List Record) → Fits C b cs → Near C b (subtracted C cs (row b))
   fits_near b cs fits = record {
     sound = fits.sound;
-    same_length = length_subtracted cs (row b) ∙ row_length b;
+    same_length = length_subtracted cs (row b) ∙ length-map b (λ a. a.symbol);
     close =
         let few = errors_subtracted b cs (row b) in
         let none = errors_row b in
@@ -195,24 +192,15 @@ module _ (C : Rows) where
       by false h = h
 
   elsewhere_most : (b : Book) (cs : List Record) → elsewhere b cs ≤ length cs
-  elsewhere_most b [] = omega arith
-  elsewhere_most b (c ∷ cs) = by (doubted_at c.place b) (elsewhere_most b cs)
-    where
-      by : (d : Bool) → elsewhere b cs ≤ length cs → cond d 0 1 + elsewhere b cs ≤ suc (length cs)
-      by true h = omega arith
-      by false h = omega arith
+  elsewhere_most b cs = count_by-le-length (λ c. not (doubted_at c.place b)) cs
 
   elsewhere_none : (b : Book) (cs : List Record) → All (λ c. doubted_at c.place b ≡ true) cs → elsewhere b cs ≡ 0
   elsewhere_none b [] h = refl
-  elsewhere_none b (c ∷ cs) h = by (doubted_at c.place b) h.0 (elsewhere_none b cs h.1)
-    where
-      by : (d : Bool) → d ≡ true → elsewhere b cs ≡ 0 → cond d 0 1 + elsewhere b cs ≡ 0
-      by true q e = omega arith
-      by false q e = absurd (both_ways false refl q)
+  elsewhere_none b (c ∷ cs) h =
+      sum_by-cons (λ d. cond (not (doubted_at d.place b)) 1 0) c cs ∙ ap₂ ◌+◌ (ap (λ t. cond (not t) 1 0) h.0) (elsewhere_none b cs h.1)
 
   elsewhere_append : (b : Book) (cs ds : List Record) → elsewhere b (cs ++ ds) ≡ elsewhere b cs + elsewhere b ds
-  elsewhere_append b [] ds = omega arith
-  elsewhere_append b (c ∷ cs) ds = let h = elsewhere_append b cs ds in omega arith
+  elsewhere_append b cs ds = sum_by-append (λ c. cond (not (doubted_at c.place b)) 1 0) cs ds
 
   errors_split : (k : ℕ) (b : Book) (n : List ℕ) → errors ℕ_discrete b n ≡ errors ℕ_discrete (drop k b) (drop k n) + errors ℕ_discrete (take k b) (take k n)
   errors_split zero b n = omega arith

@@ -2,5 +2,6 @@ pub mod Doubts
 pub mod Fitting
 pub mod Kept
 pub mod Numbers
+pub mod Rows
 pub mod Same
 pub mod Subtracting

@@ -1,7 +1,7 @@
 -- Subtracting the listed changes from a book's row leaves the row that they lead to. Assumes nothing.
 use Rattle.std.proofs.Common.{◌≡◌, ℕ, zero, suc, ◌+◌, ◌-◌, ◌<◌, Bool, true, false, cond, not, ◌&&◌, List, [], ◌∷◌, ◌++◌, length, get_or, take, drop, set, sym, refl, ap, ◌∙◌, ap₂, append_assoc, append-nil, arith}
 use native.Mathlib.Decide.{ℕ_discrete}
-use Rattle.std.proofs.lemmas.List.{get_or_at, set_at, length_push, length-take-le, take-append-drop}
+use Rattle.std.proofs.lemmas.List.{get_or_at, set_at, length-map, length_push, length-take-le, take-append-drop}
 use Rattle.std.proofs.lemmas.Bool.{both_ways}
 use Rattle.algebra.specs.Rows.{refuted}
 use Rattle.algebra.specs.Series.{All}
@@ -154,7 +154,7 @@ module _ (C : Rows) where
       let e = mixed wrong (drop k b) (drop k n) (drop k m) in
       let one : subtracted C (changes_at doubtful C 0 b n) (row b) ≡ m =
       ap (subtracted C (changes_at doubtful C 0 b n)) (sym (append-nil (row b))) ∙ (off_at doubtful b n [] (row b) [] s (agrees_row b n) ∙ append-nil m) in
-      let size : length (take k m) ≡ k = length-take-le k m (omega (arith, mixed_length doubtful b n (row b), row_length b)) in
+      let size : length (take k m) ≡ k = length-take-le k m (omega (arith, mixed_length doubtful b n (row b), length-map b (λ a. a.symbol))) in
       let two : subtracted C (changes_at wrong C k (drop k b) (drop k n)) m ≡ take k m ++ e =
       ap₂ (λ i zs. subtracted C (changes_at wrong C i (drop k b) (drop k n)) zs) (sym size) (sym (take-append-drop k m) ∙ ap (λ t. take k m ++ t) (sym (append-nil (drop k m))))
       ∙ (off_at wrong (drop k b) (drop k n) (take k m) (drop k m) [] (backed_drop k b n s) (agrees_drop wrong k b n m (agrees_wrong b n)) ∙ ap (λ t. take k m ++ t) (append-nil e)) in
@@ -165,10 +165,6 @@ module _ (C : Rows) where
       ∙ (subtracted_append (changes_at wrong C k (drop k b) (drop k n)) _ m
       ∙ (ap (subtracted C (changes_at wrong C 0 (take k b) (take k n))) two
       ∙ (three ∙ (mixed_split wrong k b n m ∙ all_mixed b n l)))))
-    where
-      row_length : (c : Book) → length (row c) ≡ length c
-      row_length [] = refl
-      row_length (a ∷ c) = ap suc (row_length c)
 
   pub changes_subtracted : Lawful C → (b : Book) (n : List ℕ) → All (λ v. v < C.size) (row b) → Near C b n → subtracted C (changes C b n) (row b) ≡ n
   changes_subtracted law b n below near = changes_make b n near.same_length (backed_symbols law b n below (law.symbols n near.sound))

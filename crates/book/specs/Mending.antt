@@ -3,7 +3,7 @@
 --   nonzero     how many of them change something
 --   subtracted  a row after changes were taken off
 --   Fits        a list of records is a pattern that fits within the bound, whoever proposed it
-use Rattle.std.specs.Prelude.{◌≡◌, ℕ, ◌+◌, ◌-◌, ◌*◌, ◌<◌, ◌≤◌, Bool, true, false, cond, List, [], ◌∷◌, ◌++◌, map, length, take, drop, ◌==◌, slice_index, slice_set}
+use Rattle.std.specs.Prelude.{◌≡◌, ℕ, ◌+◌, ◌-◌, ◌*◌, ◌<◌, ◌≤◌, Bool, true, false, cond, not, List, [], ◌∷◌, ◌++◌, count_by, map, length, take, drop, ◌==◌, slice_index, slice_set}
 use Rattle.std.proofs.Math.Decide.{ℕ_discrete}
 use Rattle.algebra.specs.Rows as rows
 use Rattle.algebra.specs.Series.{All, Mem}
@@ -34,8 +34,7 @@ changes C b n =
     ++ changes_at wrong C 0 (take last b) (take last n))
 
 abbrev pub nonzero : Rows → List Record → ℕ
-nonzero C [] = 0
-nonzero C (c ∷ cs) = cond (c.change == C.nothing) 0 1 + nonzero C cs
+nonzero C cs = count_by (λ c. not (c.change == C.nothing)) cs
 
 abbrev pub subtracted : Rows → List Record → List ℕ → List ℕ
 subtracted C [] vs = vs
@@ -51,8 +50,7 @@ places cs = map (λ c. c.place) cs
 
 -- how many changes are at undoubted places
 abbrev pub elsewhere : Book → List Record → ℕ
-elsewhere b [] = 0
-elsewhere b (c ∷ cs) = cond (doubted_at c.place b) 0 1 + elsewhere b cs
+elsewhere b cs = count_by (λ c. not (doubted_at c.place b)) cs
 
 pub record Fits (C : Rows) (b : Book) (cs : List Record) : Type 0 where
   pub distinct : Different (places cs)

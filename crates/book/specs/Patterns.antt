@@ -3,7 +3,6 @@
 --   records_of   the records
 --   Kept         what is true of the memory of every pattern
 --   memory       the memory that holds some records
---   held         a pattern is its records
 --   Pushed       records with one more, or as they were where there are sixteen
 use Rattle.std.specs.Prelude.{◌≡◌, ◌-◌, ◌≤◌, List, [], ◌∷◌, ◌++◌, length, take, drop, replicate, Some, None, Option}
 use Rattle.book.specs.declared.pattern.Pattern.TheInside.{Inside}
@@ -22,9 +21,6 @@ pub record Kept (p : Inside) : Type 0 where
 
 abbrev pub memory : List Record → Inside
 memory records = record { records = records ++ replicate (16 - length records) blank; len = length records }
-
-abbrev pub held : List Record → List Record
-held records = records
 
 -- none where there is no room, and then nothing has changed
 abbrev pub Pushed : Record → List Record → Option (Unit {0}) → List Record → Type 0

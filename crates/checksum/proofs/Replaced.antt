@@ -1,6 +1,9 @@
 -- A list whose entries are replaced one by one, from the front: the first i are new. Assumes nothing.
 use Rattle.std.proofs.Common.{◌≡◌, ℕ, ◌+◌, ◌<◌, ◌≤◌, List, [], ◌∷◌, ◌++◌, length, get_or, take, drop, set, sym, ap, ◌∙◌, ap₂, append-nil, append_assoc, arith}
-use Rattle.std.proofs.lemmas.List.{drop_more, take_more, length-take-le, set_at, get_or_at, take_all, drop_all}
+use Rattle.std.proofs.lemmas.List.{drop_more, take_more, length-take-le, set_at, get_or_at, take_all, drop_all, get_or_default}
+use Rattle.algebra.specs.Field.{FieldOn}
+use Rattle.algebra.specs.Poly.{coeff, poly_sub}
+use Rattle.algebra.proofs.Poly.{coeff_poly_sub}
 
 module _ {X : Type 0} (new old : List X) (long : length new ≡ length old) where
   pub replaced_read : (i : ℕ) (d : X) → i < length old → get_or (take i new ++ drop i old) i d ≡ get_or old i d
@@ -18,3 +21,14 @@ module _ {X : Type 0} (new old : List X) (long : length new ≡ length old) wher
 
   pub replaced_all : (i : ℕ) → length old ≤ i → take i new ++ drop i old ≡ new
   replaced_all i h = ap₂ (λ xs ys. xs ++ ys) (take_all i new (omega arith)) (drop_all i old h) ∙ append-nil new
+
+-- where a difference of polynomials takes the place of a list
+module _ {S : Type 0} (F : FieldOn S) (p q old : List S) (long : length (poly_sub F p q) ≡ length old) (i : ℕ) (here : i < length old) (now : List S) (so_far : now ≡ take i (poly_sub F p q) ++ drop i old) where
+  pub coeff_left : (d : S) → get_or now i d ≡ coeff F old i
+  coeff_left d = ap (λ xs. get_or xs i d) so_far ∙ replaced_read (poly_sub F p q) old long i d here ∙ get_or_default old i d F.𝟘 here
+
+  pub difference_more : (w a b : S) → w ≡ F.add a (F.neg b) → a ≡ coeff F p i → b ≡ coeff F q i → set now i w ≡ take (i + 1) (poly_sub F p q) ++ drop (i + 1) old
+  difference_more w a b e ea eb =
+      let is_w : w ≡ coeff F (poly_sub F p q) i = e ∙ ap₂ (λ x y. F.add x (F.neg y)) ea eb ∙ sym (coeff_poly_sub F p q i) in
+      ap (λ xs. set xs i w) so_far
+      ∙ replaced_more (poly_sub F p q) old long i w here (is_w ∙ get_or_default (poly_sub F p q) i F.𝟘 w (omega arith))

@@ -18,9 +18,6 @@ align_small τ = subst (λ (n : ℕ). (0 < n) × (n ≤ 16)) (sym (align-bytes �
 up_small : (k e : ℕ) → 0 < k → k ≤ 16 → up k e ≤ e + 16
 up_small k e h l = omega (arith, mod-lt (k - e % k) {m = k} h)
 
-pub sixteen_fit : (τ : Ty) → size τ ≤ 1024 → 16 * size τ < 9223372036854775808
-sixteen_fit τ h = omega arith
-
 pub engine_fits : (τ : Ty) → size τ ≤ 1024 → up (max (align τ) 1) (up (align τ) 0 + 16 * size τ) < 9223372036854775808
 engine_fits τ h =
     let a = align_small τ in

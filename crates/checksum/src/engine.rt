@@ -62,6 +62,7 @@ impl<C: Checksum> Engine<C> {
 
     /// The engine after a whole row. Its residue is the remainder, by the generator polynomial, of the polynomial that a
     /// leading 1 and the row's symbols make, highest power first.
+    #[tactic(auto, using(algebra::proofs::Remainder::residue_remainder))]
     pub fn of_row(row: &[C::SymbolField]) -> Self
         ensures residue { result ≡ residue C.SymbolField.Field.field C.Checksum.code row.now }
         ensures remainder { Remainder C.SymbolField.Field.field C.Checksum.code.lower (reverse (C.SymbolField.Field.field.𝟙 ∷ row.now)) result }

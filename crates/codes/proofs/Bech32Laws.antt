@@ -1,9 +1,5 @@
 -- The sheet code is lawful. Assumes nothing.
-use mathlib.Core.Path.{◌≡◌, refl, ap, sym, ◌∙◌}
-use mathlib.Core.List.{[], ◌∷◌, map}
-use Prim.Native.Nat.{ℕ, ◌+◌, ◌-◌, ◌<◌, ◌≤◌}
-use native.Mathlib.Omega.{arith}
-use lib.Dec.{eqb, eqb→eq, lit<, lit≤}
+use Rattle.std.proofs.Common.{◌≡◌, ℕ, ◌+◌, ◌-◌, ◌<◌, ◌≤◌, [], ◌∷◌, map, eqb, eqb→eq, refl, sym, ap, ◌∙◌, lit<, lit≤, arith}
 use Rattle.algebra.specs.Field.{HasOrder, pow}
 use Rattle.algebra.specs.Poly.{eval}
 use Rattle.algebra.specs.Code.{Lawful, generator}

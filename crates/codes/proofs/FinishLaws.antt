@@ -1,9 +1,5 @@
 -- The finish code is lawful. Assumes nothing.
-use mathlib.Core.Path.{◌≡◌, refl}
-use mathlib.Core.List.{map}
-use Prim.Native.Nat.{ℕ, zero, suc, ◌<◌, ◌≤◌}
-use native.Mathlib.Omega.{arith}
-use lib.Dec.{eqb, eqb→eq, lit<, lit≤}
+use Rattle.std.proofs.Common.{◌≡◌, ℕ, zero, suc, ◌<◌, ◌≤◌, map, eqb, eqb→eq, refl, lit<, lit≤, arith}
 use Rattle.algebra.specs.Field.{pow}
 use Rattle.algebra.specs.Poly.{eval}
 use Rattle.algebra.specs.Code.{Lawful, generator}

@@ -1,3 +1,2 @@
 pub mod Bech32Laws
 pub mod FinishLaws
-pub mod Ones

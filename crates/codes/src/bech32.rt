@@ -16,6 +16,7 @@ const ROOT_EXPONENTS: (usize, usize) = (24, 26);
 /// The name of the sheet code. It has no value: a code is an argument of type.
 pub enum Bech32 {}
 
+#[tactic(auto, unfolding(crate::specs::Bech32::sheet, gf32::specs::Gf32::gf32))]
 impl Checksum for Bech32 {
     type SymbolField = Fe32;
 
@@ -64,5 +65,6 @@ impl Checksum for Bech32 {
         CODE_LENGTH
     }
 
+    #[tactic(auto, using(crate::proofs::Bech32Laws::sheet_lawful), unfolding(gf32::specs::Gf32::gf32_numbers))]
     fn laws() {}
 }

@@ -14,6 +14,7 @@ const ROOT_EXPONENTS: (usize, usize) = (1, 4);
 /// The name of the finish code. It has no value: a code is an argument of type.
 pub enum Finish {}
 
+#[tactic(auto, unfolding(crate::specs::Finish::finish, gf32::specs::Gf32::gf32))]
 impl Checksum for Finish {
     type SymbolField = Fe32;
 
@@ -56,5 +57,6 @@ impl Checksum for Finish {
         CODE_LENGTH
     }
 
+    #[tactic(auto, using(crate::proofs::FinishLaws::finish_lawful), unfolding(gf32::specs::Gf32::gf32_numbers))]
     fn laws() {}
 }

@@ -3,3 +3,4 @@ pub mod Nearby
 pub mod Onward
 pub mod Proposals
 pub mod Values
+pub mod Sizes

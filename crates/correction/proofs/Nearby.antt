@@ -1,5 +1,5 @@
 -- Where a row is near, what is proposed is the changes from it. Assumes nothing.
-use Rattle.std.proofs.Common.{◌≡◌, ℕ, ◌≤◌, Bool, List, ◌++◌, map, length, Some, Option, sym, refl, ap, ◌∙◌, subst, ap₂, arith}
+use Rattle.std.proofs.Common.{◌≡◌, ℕ, ◌≤◌, List, ◌++◌, map, length, Some, Option, sym, refl, ap, ◌∙◌, subst, arith}
 use Rattle.std.proofs.lemmas.List.{length-append, length-map}
 use Rattle.algebra.specs.Code.{Code, Lawful, bound}
 use Rattle.algebra.specs.Decode.{errata_locator, errata_evaluator, root_position}
@@ -25,12 +25,11 @@ use Rattle.polynomial.specs.Roots.{roots}
 use Rattle.correction.specs.Decoded.{located, Told, found, Complete, Tells}
 use Rattle.correction.specs.Forney.{Valued}
 use Rattle.correction.specs.Listing.{OnRow, record_of}
-use Rattle.correction.specs.Proposals.{proposed}
 use Rattle.book.specs.declared.pattern.Pattern.{Pattern}
 
 module _ {S E : Type 0} (N : Numbers S) (s : FieldOn S) (e : FieldOn E) (up : S → E) (L : Lifts s e up) (C : Code S E) (lawful : Lawful s e up C)
-    (M : Numbers E) (U : Units E) (cyclic : Cyclic e M U) (b : Book) (below : Below N (row b)) (list : List E) (ms : List Bool)
-    (is-list : list ≡ tab (bound C) (syndrome s e up C (elements N (row b)))) (is-marks : ms ≡ marks b) where
+    (M : Numbers E) (U : Units E) (cyclic : Cyclic e M U) (b : Book) (below : Below N (row b)) (list : List E)
+    (is-list : list ≡ tab (bound C) (syndrome s e up C (elements N (row b)))) where
   abbrev b_s : rows.Book S
   b_s = in_elements N b
 
@@ -43,13 +42,13 @@ module _ {S E : Type 0} (N : Numbers S) (s : FieldOn S) (e : FieldOn E) (up : S 
   is_row : elements N (row b) ≡ symbols b_s
   is_row = sym (row_elements N b)
 
-  are_marks : ms ≡ rows.doubted_places b_s
-  are_marks = is-marks ∙ sym (marks_elements N b)
+  are_marks : marks b ≡ rows.doubted_places b_s
+  are_marks = sym (marks_elements N b)
 
-  located_is : located e up N list ms C.root C.first ≡ found_locator s e up C b_s
-  located_is = locator_found s e up C b_s (elements N (row b)) ms list is_row are_marks is-list
+  located_is : located e up N list (marks b) C.root C.first ≡ found_locator s e up C b_s
+  located_is = locator_found s e up C b_s (elements N (row b)) (marks b) list is_row are_marks is-list
 
-  found_is : found e up N list ms C.root C.first ord ≡ root_list N s e up C b ord
+  found_is : found e up N list (marks b) C.root C.first ord ≡ root_list N s e up C b ord
   found_is = ap (λ p. map (root_position ord) (roots e p C.root ord)) located_is
 
   module _ (n : List ℕ) (short : length b ≤ C.limit) (near : Near (rows_of N s C) b n) where
@@ -57,36 +56,36 @@ module _ {S E : Type 0} (N : Numbers S) (s : FieldOn S) (e : FieldOn E) (up : S 
     Y = change_number N s e up C b n
 
     -- what decoding the book finds is told by the list of its syndromes
-    told : (p : ℕ) → Right N s e up C b n p → Told e up N list ms C.root C.first p (Y p)
+    told : (p : ℕ) → Right N s e up C b n p → Told e up N list (marks b) C.root C.first p (Y p)
     told p right =
         let W = errata_evaluator e (locator_of s e up C) (doubted_positions s e up C b_s) (syndrome s e up C (symbols b_s)) (bound C) in
         let G = errata_locator e (locator_of s e up C) (doubted_positions s e up C b_s) (syndrome s e up C (symbols b_s)) (bound C) in
         let at-book : Valued e up N W (deriv e G) C.root C.first p (Y p) =
         record { sloped = right.sloped; symbol = change s e up C b_s (elements N n) p; number = refl; value = sym right.value } in
-        let w = evaluator_found s e up C b_s (elements N (row b)) ms list is_row are_marks is-list in
-        let g = errata_found s e up C b_s (elements N (row b)) ms list is_row are_marks is-list in
-        subst (λ V. Valued e up N V (deriv e (errata_locator e (pow e C.root) (positions ms) (coeff e list) (length list))) C.root C.first p (Y p)) (sym w)
+        let w = evaluator_found s e up C b_s (elements N (row b)) (marks b) list is_row are_marks is-list in
+        let g = errata_found s e up C b_s (elements N (row b)) (marks b) list is_row are_marks is-list in
+        subst (λ V. Valued e up N V (deriv e (errata_locator e (pow e C.root) (positions (marks b)) (coeff e list) (length list))) C.root C.first p (Y p)) (sym w)
         (subst (λ K. Valued e up N W (deriv e K) C.root C.first p (Y p)) (sym g) at-book)
 
-    long : length ms ≡ length b
-    long = ap length is-marks ∙ length-map b (λ a. a.doubted)
+    long : length (marks b) ≡ length b
+    long = length-map b (λ a. a.doubted)
 
-    on_row : (p : ℕ) → Right N s e up C b n p → OnRow (length ms) (Told e up N list ms C.root C.first) p (Y p)
+    on_row : (p : ℕ) → Right N s e up C b n p → OnRow (length (marks b)) (Told e up N list (marks b) C.root C.first) p (Y p)
     on_row p right = let h = right.on_slip in (omega (arith, long), told p right)
 
-    listed : map (record_of (length ms) Y) (positions ms) ++ map (record_of (length ms) Y) (found e up N list ms C.root C.first ord) ≡ changes (rows_of N s C) b n
+    listed : map (record_of (length (marks b)) Y) (positions (marks b)) ++ map (record_of (length (marks b)) Y) (found e up N list (marks b) C.root C.first ord) ≡ changes (rows_of N s C) b n
     listed =
-        ap₂ (λ k fs. map (record_of k Y) (positions fs) ++ map (record_of k Y) (found e up N list ms C.root C.first ord)) long is-marks
+        ap (λ k. map (record_of k Y) (positions (marks b)) ++ map (record_of k Y) (found e up N list (marks b) C.root C.first ord)) long
         ∙ ap (λ qs. map (record_of (length b) Y) (positions (marks b)) ++ map (record_of (length b) Y) qs) found_is
         ∙ listed_changes N s e up L C lawful b n below short near ord order.2
 
-    complete : Complete e up N list ms C.root C.first ord Y
+    complete : Complete e up N list (marks b) C.root C.first ord Y
     complete =
-        let qs = found e up N list ms C.root C.first ord in
+        let qs = found e up N list (marks b) C.root C.first ord in
         let few = few_changes (rows_of N s C) b n near in
-        let many = ap length (sym listed) ∙ length-append (map (record_of (length ms) Y) (positions ms)) (map (record_of (length ms) Y) qs) in
-        let lp = length-map (positions ms) (record_of (length ms) Y) in
-        let lq = length-map qs (record_of (length ms) Y) in
+        let many = ap length (sym listed) ∙ length-append (map (record_of (length (marks b)) Y) (positions (marks b))) (map (record_of (length (marks b)) Y) qs) in
+        let lp = length-map (positions (marks b)) (record_of (length (marks b)) Y) in
+        let lq = length-map qs (record_of (length (marks b)) Y) in
         let small = lawful.bound_small in
         let close = near_elements N s C b n below near in
         let as_many = ap length located_is ∙ (mends s e up L C lawful b_s (elements N n) (omega (arith, length_elements N b)) close).as_many in
@@ -94,13 +93,13 @@ module _ {S E : Type 0} (N : Numbers S) (s : FieldOn S) (e : FieldOn E) (up : S 
         let size = ap length is-list ∙ length_tab (bound C) (syndrome s e up C (elements N (row b))) in
         record {
           order = order.2;
-          doubted = all_map (Right N s e up C b n) (λ p. Told e up N list ms C.root C.first p (Y p)) told (positions ms)
-              (subst (λ fs. All (Right N s e up C b n) (positions fs)) (sym is-marks) (doubted_right N s e up L C lawful b n below short near));
-          errors = all_map (Right N s e up C b n) (λ p. OnRow (length ms) (Told e up N list ms C.root C.first) p (Y p)) on_row qs
+          doubted = all_map (Right N s e up C b n) (λ p. Told e up N list (marks b) C.root C.first p (Y p)) told (positions (marks b))
+              (doubted_right N s e up L C lawful b n below short near);
+          errors = all_map (Right N s e up C b n) (λ p. OnRow (length (marks b)) (Told e up N list (marks b) C.root C.first) p (Y p)) on_row qs
               (subst (All (Right N s e up C b n)) (sym found_is) (roots_right N s e up L C lawful b n below short near ord order.2));
           few = omega arith;
           within = omega (arith, close.close);
         }
 
-    pub proposes : (r : Option Pattern) → Tells e up N list ms C.root C.first r → proposed r ≡ Some (changes (rows_of N s C) b n)
-    proposes r tells = tells ord Y complete ∙ ap Some listed
+    pub proposes : (r : Option Pattern) → Tells e up N list (marks b) C.root C.first r → r ≡ Some (changes (rows_of N s C) b n)
+    proposes r tells = tells.records ord Y complete ∙ ap Some listed

@@ -2,38 +2,32 @@
 --   Onward   records hs, with those of ps to come, are what the first ones are with those of all positions
 use Rattle.std.proofs.Common.{◌≡◌, ℕ, ◌+◌, ◌-◌, ◌<◌, ◌≤◌, Bool, true, false, List, [], ◌∷◌, ◌++◌, map, length, get_or, drop, Some, None, Option, sym, refl, ap, ◌∙◌, subst, append_assoc, append-nil, arith}
 use Rattle.std.proofs.lemmas.List.{at_drop_more, length-append, length-drop, length-map}
+use Rattle.std.proofs.lemmas.Option.{none-some}
 use Rattle.algebra.specs.Rows.{positions}
 use Rattle.algebra.specs.Series.{All}
 use Rattle.book.specs.declared.record.Record.{Record}
 use Rattle.correction.specs.Listing.{record_of, Added, Listable, Lists}
-use Rattle.book.specs.Patterns.{held, Pushed}
-use Rattle.book.specs.declared.pattern.Pattern.{Pattern}
-use Rattle.correction.proofs.Values.{never_both}
+use Rattle.book.specs.Patterns.{Pushed}
 
-pub pushed_added : (new : Record) (before after : Pattern) (r : Option (Unit {0})) → Pushed new before r after → Added new (held before) r (held after)
+pub pushed_added : (new : Record) (before after : List Record) (r : Option (Unit {0})) → Pushed new before r after → Added new before r after
 pushed_added new before after None p room = let full = p.0 in absurd (omega arith)
 pushed_added new before after (Some u) p room = (refl, p)
 
-module _ (Change : ℕ → ℕ → Type 0) (n : ℕ) (all : List ℕ) (before : List Record) where
-  abbrev pub Onward : List ℕ → List Record → Type 0
-  Onward ps hs = (Y : ℕ → ℕ) → Listable Change Y all before → Listable Change Y ps hs × (hs ++ map (record_of n Y) ps ≡ before ++ map (record_of n Y) all)
+abbrev pub Onward : (ℕ → ℕ → Type 0) → ℕ → List ℕ → List Record → List ℕ → List Record → Type 0
+Onward Change n all before ps hs =
+    (Y : ℕ → ℕ) → Listable Change Y all before → Listable Change Y ps hs × (hs ++ map (record_of n Y) ps ≡ before ++ map (record_of n Y) all)
 
-  pub onward_none : Onward all before
-  onward_none Y l = (l, refl)
-
-  pub onward_same : (ps : List ℕ) (p q : Pattern) → q ≡ p → Onward ps (held p) → Onward ps (held q)
-  onward_same ps p q e o = subst (λ x. Onward ps (held x)) (sym e) o
-
-  pub onward_all : (hs : List Record) → Onward [] hs → Lists Change n all before (Some tt) hs
-  onward_all hs o Y l = (refl, sym (append-nil hs) ∙ (o Y l).1)
+module _ {Change : ℕ → ℕ → Type 0} (n : ℕ) {all : List ℕ} {before : List Record} where
+  pub onward_all : {hs : List Record} → Onward Change n all before [] hs → Lists Change n all before (Some tt) hs
+  onward_all {hs} o Y l = (refl, sym (append-nil hs) ∙ (o Y l).1)
 
   -- the next position's record is added
-  module _ (p : ℕ) (ps : List ℕ) (hs next : List Record) (r : Option (Unit {0})) (o : Onward (p ∷ ps) hs)
+  module _ {p : ℕ} {ps : List ℕ} {hs next : List Record} {r : Option (Unit {0})} (o : Onward Change n all before (p ∷ ps) hs)
       (added : (y : ℕ) → Change p y → Added record { place = n - 1 - p; change = y } hs r next) where
     step : (Y : ℕ → ℕ) → Listable Change Y all before → (r ≡ Some tt) × (next ≡ hs ++ record_of n Y p ∷ [])
     step Y l = let left = (o Y l).0 in let room = left.room in added (Y p) left.changes.0 (omega arith)
 
-    pub onward_more : Onward ps next
+    pub onward_more : Onward Change n all before ps next
     onward_more Y l =
         let left = (o Y l).0 in
         let room = left.room in
@@ -44,8 +38,8 @@ module _ (Change : ℕ → ℕ → Type 0) (n : ℕ) (all : List ℕ) (before : 
         )
 
     -- it is never refused, so that anything can be said of a refusal
-    pub never_none : r ≡ None → (after : List Record) (t : Option (Unit {0})) → Lists Change n all before t after
-    never_none e after t Y l = absurd (never_both r e (step Y l).0)
+    pub never_none : r ≡ None → {after : List Record} {t : Option (Unit {0})} → Lists Change n all before t after
+    never_none e Y l = absurd (none-some tt (sym e ∙ (step Y l).0))
 
 -- one list of positions after another, from none on
 pub both_listed : (Change Change' : ℕ → ℕ → Type 0) (n : ℕ) (ps qs : List ℕ) (between after : List Record) (r t : Option (Unit {0})) (Y : ℕ → ℕ)
@@ -68,11 +62,11 @@ module _ (ms : List Bool) (i : ℕ) (below : i < length ms) where
   unmarked : get_or ms i false ≡ false → positions (drop i ms) ≡ positions (drop (i + 1) ms)
   unmarked e = at_drop_more positions ms i false below ∙ ap (λ f. positions (f ∷ drop (i + 1) ms)) e
 
-  module _ (Change : ℕ → ℕ → Type 0) (before hs : List Record) (o : Onward Change (length ms) (positions ms) before (positions (drop i ms)) hs) where
+  module _ {Change : ℕ → ℕ → Type 0} {before hs : List Record} (o : Onward Change (length ms) (positions ms) before (positions (drop i ms)) hs) where
     pub passed_over : get_or ms i false ≡ false → Onward Change (length ms) (positions ms) before (positions (drop (i + 1) ms)) hs
     passed_over e = subst (λ ps. Onward Change (length ms) (positions ms) before ps hs) (unmarked e) o
 
-    module _ (e : get_or ms i false ≡ true) (next : List Record) (r : Option (Unit {0}))
+    module _ (e : get_or ms i false ≡ true) {next : List Record} {r : Option (Unit {0})}
         (added : (y : ℕ) → Change (length ms - 1 - i) y → Added record { place = i; change = y } hs r next) where
       at_place : (y : ℕ) → Change (length ms - 1 - i) y → Added record { place = length ms - 1 - (length ms - 1 - i); change = y } hs r next
       at_place y h = let same : i ≡ length ms - 1 - (length ms - 1 - i) = omega arith in subst (λ k. Added record { place = k; change = y } hs r next) same (added y h)
@@ -81,7 +75,7 @@ module _ (ms : List Bool) (i : ℕ) (below : i < length ms) where
       first_left = subst (λ ps. Onward Change (length ms) (positions ms) before ps hs) (marked e) o
 
       pub taken_up : Onward Change (length ms) (positions ms) before (positions (drop (i + 1) ms)) next
-      taken_up = onward_more Change (length ms) (positions ms) before (length ms - 1 - i) (positions (drop (i + 1) ms)) hs next r first_left at_place
+      taken_up = onward_more (length ms) first_left at_place
 
-      pub never_refused : r ≡ None → (after : List Record) (t : Option (Unit {0})) → Lists Change (length ms) (positions ms) before t after
-      never_refused = never_none Change (length ms) (positions ms) before (length ms - 1 - i) (positions (drop (i + 1) ms)) hs next r first_left at_place
+      pub never_refused : r ≡ None → {after : List Record} {t : Option (Unit {0})} → Lists Change (length ms) (positions ms) before t after
+      never_refused = never_none (length ms) first_left at_place

@@ -1,8 +1,9 @@
 -- What is proposed by what decoding finds. Assumes nothing.
---   few_doubts, few_errors   where all changes are told, neither of the two tests stops the search
---   erasures_listed, all_listed   the doubted places' records are had, and then all
-use Rattle.std.proofs.Common.{◌≡◌, ℕ, ◌+◌, ◌-◌, ◌*◌, ◌≤◌, Bool, List, [], ◌++◌, map, length, take, Some, Option, sym, ap, ◌∙◌, subst, ap₂, arith}
-use Rattle.std.proofs.lemmas.List.{length-take-le}
+--   refused_doubts, refused_errors   where all changes are told, neither of the two tests stops the search
+--   refused_erasures, refused_rest   nor is a record refused
+--   all_proposed                     the records are the doubted places' and then the errors'
+use Rattle.std.proofs.Common.{◌≡◌, ℕ, ◌+◌, ◌-◌, ◌*◌, ◌<◌, Bool, List, [], ◌++◌, map, length, Some, None, Option, sym, ap, ◌∙◌, subst, ap₂, arith}
+use Rattle.std.proofs.lemmas.Option.{none-some}
 use Rattle.algebra.specs.Decode.{errata_locator, errata_evaluator, root_position}
 use Rattle.algebra.specs.Field.{FieldOn, Numbers, HasOrder, pow}
 use Rattle.algebra.specs.Poly.{coeff, eval}
@@ -10,14 +11,15 @@ use Rattle.algebra.specs.Rows.{count, positions}
 use Rattle.algebra.specs.Series.{All, deriv}
 use Rattle.algebra.proofs.Flags.{length_positions}
 use Rattle.algebra.proofs.Members.{all_map}
+use Rattle.book.specs.declared.pattern.Pattern.{Pattern}
 use Rattle.book.specs.declared.record.Record.{Record}
 use Rattle.polynomial.specs.Roots.{roots}
-use Rattle.correction.specs.Decoded.{located, Told, found, Complete}
+use Rattle.correction.specs.Decoded.{located, Told, found, Complete, Tells}
 use Rattle.correction.specs.Forney.{Valued}
 use Rattle.correction.specs.Listing.{OnRow, Lists, record_of}
 use Rattle.correction.proofs.Onward.{both_listed}
 
-module _ {E S : Type 0} (F : FieldOn E) (up : S → E) (N : Numbers S) where
+module _ {E S : Type 0} {F : FieldOn E} {up : S → E} {N : Numbers S} where
   open F use {mul as ◌⊗◌, neg as ⊖◌, inv}
 
   infixl 70 ◌⊗◌
@@ -34,45 +36,56 @@ module _ {E S : Type 0} (F : FieldOn E) (up : S → E) (N : Numbers S) where
         value = v.value ∙ sym (ap₂ (λ t u. ⊖ (x ⊗ t) ⊗ inv u ⊗ inv (pow F x first)) (ew (inv x)) (ed (inv x)));
       }
 
-  module _ (s : List E) (marks : List Bool) (a : E) (first n : ℕ) (Y : ℕ → ℕ) (complete : Complete F up N s marks a first n Y) where
-    pub few_doubts : count marks ≤ length s
-    few_doubts = let l = length_positions marks in let w = complete.within in omega arith
+  pub tells_at : {s : List E} {ms marks : List Bool} {a b : E} {first k : ℕ} {r : Option Pattern} → ms ≡ marks → a ≡ b → first ≡ k
+      → Tells F up N s ms a first r → Tells F up N s marks b k r
+  tells_at {s} {ms} {marks} {a} {b} {first} {k} {r} em ea ek tells =
+      subst (λ i. Tells F up N s marks b i r) ek (subst (λ x. Tells F up N s marks x first r) ea (subst (λ fs. Tells F up N s fs a first r) em tells))
 
-    pub few_errors : (k : ℕ) (conn : List E) → k ≤ length conn → take k conn ≡ located F up N s marks a first → 2 * (k - 1) + count marks ≤ length s
-    few_errors k conn h e =
-        let l = length_positions marks in
-        let w = complete.within in
-        let t = length-take-le k conn h in
-        let m = ap length e in
-        omega arith
+  module _ {s : List E} {marks : List Bool} {a : E} {first : ℕ} where
+    pub refused_doubts : {r : Option Pattern} → length s < count marks → Tells F up N s marks a first r
+    refused_doubts many = record { records = λ n Y complete. absurd (omega (arith, length_positions marks, complete.within)) }
 
+    pub refused_errors : {errors : List E} {r : Option Pattern} → errors ≡ located F up N s marks a first → length s < 2 * (length errors - 1) + count marks → Tells F up N s marks a first r
+    refused_errors is many = record { records = λ n Y complete. absurd (omega (arith, ap length is, length_positions marks, complete.within)) }
+
+    -- W and D have the values of the evaluator and of the errata locator's derivative, and the first records are listed
     module _ (W D : List E) (ew : (x : E) → eval F W x ≡ eval F (errata_evaluator F (pow F a) (positions marks) (coeff F s) (length s)) x)
-        (ed : (x : E) → eval F D x ≡ eval F (deriv F (errata_locator F (pow F a) (positions marks) (coeff F s) (length s))) x) where
-      abbrev Change : ℕ → ℕ → Type 0
-      Change = Valued F up N W D a first
+        (ed : (x : E) → eval F D x ≡ eval F (deriv F (errata_locator F (pow F a) (positions marks) (coeff F s) (length s))) x)
+        {before between : List Record} {r : Option (Unit {0})} (fresh : before ≡ []) (erasures : Lists (Valued F up N W D a first) (length marks) (positions marks) before r between) where
+      -- they tell the changes that decoding tells
+      module _ {n : ℕ} {Y : ℕ → ℕ} (complete : Complete F up N s marks a first n Y) where
+        change : (p : ℕ) → Told F up N s marks a first p (Y p) → Valued F up N W D a first p (Y p)
+        change p = valued_same W _ D _ a first p (Y p) ew ed
 
-      change : (p : ℕ) → Told F up N s marks a first p (Y p) → Change p (Y p)
-      change p = valued_same W _ D _ a first p (Y p) ew ed
+        doubted : All (λ p. Valued F up N W D a first p (Y p)) (positions marks)
+        doubted = all_map (λ p. Told F up N s marks a first p (Y p)) (λ p. Valued F up N W D a first p (Y p)) change (positions marks) complete.doubted
 
-      doubted : All (λ p. Change p (Y p)) (positions marks)
-      doubted = all_map (λ p. Told F up N s marks a first p (Y p)) (λ p. Change p (Y p)) change (positions marks) complete.doubted
-
-      module _ (before between : List Record) (r : Option (Unit {0})) (fresh : before ≡ []) (erasures : Lists Change (length marks) (positions marks) before r between) where
-        pub erasures_listed : r ≡ Some tt
-        erasures_listed =
-            let room = complete.few in
-            let none = ap length fresh in
-            (erasures Y record { changes = doubted; room = omega arith }).0
-
-        pub all_listed : (conn : List E) (after : List Record) (t : Option (Unit {0})) → conn ≡ located F up N s marks a first
-            → ((m : ℕ) → HasOrder F a m → Lists (OnRow (length marks) Change) (length marks) (map (root_position m) (roots F conn a m)) between t after)
+        all_listed : {errors : List E} {after : List Record} {t : Option (Unit {0})} → errors ≡ located F up N s marks a first
+            → ((m : ℕ) → HasOrder F a m → Lists (OnRow (length marks) (Valued F up N W D a first)) (length marks) (map (root_position m) (roots F errors a m)) between t after)
             → (t ≡ Some tt) × (after ≡ map (record_of (length marks) Y) (positions marks) ++ map (record_of (length marks) Y) (found F up N s marks a first n))
-        all_listed conn after t e errors =
+        all_listed {errors} {after} {t} e rest =
+            let Change = Valued F up N W D a first in
             let qs = found F up N s marks a first n in
             let both = both_listed Change (OnRow (length marks) Change) (length marks) (positions marks) qs between after r t Y
             (subst (λ hs. Lists Change (length marks) (positions marks) hs r between) fresh erasures)
-            (subst (λ c. Lists (OnRow (length marks) Change) (length marks) (map (root_position n) (roots F c a n)) between t after) e (errors n complete.order))
+            (subst (λ c. Lists (OnRow (length marks) Change) (length marks) (map (root_position n) (roots F c a n)) between t after) e (rest n complete.order))
             doubted
             (all_map (λ p. OnRow (length marks) (Told F up N s marks a first) p (Y p)) (λ p. OnRow (length marks) Change p (Y p)) (λ p h. (h.0, change p h.1)) qs complete.errors)
             complete.few in
             (both.1, both.2)
+
+      pub refused_erasures : r ≡ None → {t : Option Pattern} → Tells F up N s marks a first t
+      refused_erasures none = record {
+        records = λ n Y complete.
+            let few = complete.few in
+            let empty = ap length fresh in
+            absurd (none-some tt (sym none ∙ (erasures Y record { changes = doubted complete; room = omega arith }).0));
+      }
+
+      module _ {errors : List E} {after : List Record} {t : Option (Unit {0})} (e : errors ≡ located F up N s marks a first)
+          (rest : (m : ℕ) → HasOrder F a m → Lists (OnRow (length marks) (Valued F up N W D a first)) (length marks) (map (root_position m) (roots F errors a m)) between t after) where
+        pub refused_rest : t ≡ None → {u : Option Pattern} → Tells F up N s marks a first u
+        refused_rest none = record { records = λ n Y complete. absurd (none-some tt (sym none ∙ (all_listed complete e rest).0)) }
+
+        pub all_proposed : Tells F up N s marks a first (Some after)
+        all_proposed = record { records = λ n Y complete. ap Some (all_listed complete e rest).1 }

@@ -1,5 +1,6 @@
 -- Forney's value, step by step, from what each step answers. Assumes nothing.
-use Rattle.std.proofs.Common.{◌≡◌, ℕ, List, [], ◌∷◌, length, Some, None, Ok, Err, Option, Result, sym, refl, ap, ◌∙◌, ap₂, arith}
+use Rattle.std.proofs.Common.{◌≡◌, ℕ, ◌<◌, List, [], ◌∷◌, length, Some, Ok, Err, Result, sym, refl, ap, ◌∙◌, arith}
+use Rattle.std.proofs.lemmas.Option.{none-some}
 use Rattle.std.specs.Result.{result_ok}
 use Rattle.algebra.specs.Field.{FieldOn, pow}
 use Rattle.algebra.specs.Poly.{eval}
@@ -15,31 +16,19 @@ use Rattle.fieldvec.specs.declared.fault.ListFault.{ListFault}
 use Rattle.fieldvec.proofs.Filled.{asked_some}
 use Rattle.correction.specs.Forney.{forney}
 
-pub some_same : {A : Type 0} {x y : A} → Some x ≡ Some y → x ≡ y
-some_same e = cc
-
-pub same_some : {A : Type 0} (r : Option A) {x y : A} → r ≡ Some x → r ≡ Some y → x ≡ y
-same_some r d e = some_same (sym d ∙ e)
-
-pub never_both : {A : Type 0} (r : Option A) {x : A} → r ≡ None → r ≡ Some x → ⊥
-never_both r d e = let z : ◌≡◌ {A = ℕ} 0 1 = cc in omega arith
+-- a list that has entries is not refused
+pub answer_is : {X : Type 0} {given : ℕ} {x y : X} {r : Result X ListFault} → 0 < given → r ≡ asked given x → r ≡ Ok y → y ≡ x
+answer_is {given = given} {x = x} some answer is = let allowed = asked_some given x some in cc
 
 module _ {A : Type 0} (F : FieldOn A) where
   open F use {𝟘, 𝟙, mul as ◌⊗◌, neg as ⊖◌, inv, mul_inv, mul_assoc}
 
   infixl 70 ◌⊗◌
   infix 80 ⊖◌
-  pub inverted : (x back : A) (r : Result A FieldFault) → ¬ (x ≡ 𝟘) → r ≡ inverse F x → result_ok r ≡ Some back → back ≡ inv x
-  inverted x back r h e s = same_some (result_ok r) s (ap result_ok (e ∙ inverse_of_other F x h))
-
   -- a list has a value, unless it is empty
-  pub evaluated : (p : List A) (x y : A) (r : Result A ListFault) → r ≡ asked (length p) (eval F p x) → result_ok r ≡ Some y → y ≡ eval F p x
-  evaluated [] x y r e s = absurd (never_both (result_ok r) (ap result_ok e) s)
-  evaluated (a ∷ p) x y r e s = same_some (result_ok r) s (ap result_ok (e ∙ sym (asked_some (length (a ∷ p)) (eval F (a ∷ p) x) (omega arith))))
-
-  pub unvalued : (p : List A) (x : A) (r : Result A ListFault) → r ≡ asked (length p) (eval F p x) → result_ok r ≡ None → eval F p x ≡ 𝟘
-  unvalued [] x r e s = refl
-  unvalued (a ∷ p) x r e s = absurd (never_both (result_ok r) s (ap result_ok (e ∙ sym (asked_some (length (a ∷ p)) (eval F (a ∷ p) x) (omega arith)))))
+  pub evaluated : (p : List A) (x y : A) → result_ok (asked (length p) (eval F p x)) ≡ Some y → y ≡ eval F p x
+  evaluated [] x y e = absurd (none-some y e)
+  evaluated (a ∷ p) x y e = let allowed = asked_some (length (a ∷ p)) (eval F (a ∷ p) x) (omega arith) in cc
 
   product_inverse : (x y : A) → ¬ (x ≡ 𝟘) → ¬ (y ≡ 𝟘) → inv x ⊗ inv y ≡ inv (x ⊗ y)
   product_inverse x y hx hy = inv_unique F (x ⊗ y) (inv x ⊗ inv y) (
@@ -59,9 +48,17 @@ module _ {A : Type 0} (F : FieldOn A) where
       divided_other x (y ⊗ z) (mul_ne_zero F y z hy hz)
       ∙ ap Ok (ap (λ t. x ⊗ t) (sym (product_inverse y z hy hz)) ∙ sym (mul_assoc x (inv y) (inv z)))
 
-  pub forney_is : (W D : List A) (x value slope power : A) (first : ℕ) (r : Result A FieldFault) → ¬ (x ≡ 𝟘)
-      → value ≡ eval F W (inv x) → slope ≡ eval F D (inv x) → power ≡ pow F x first → r ≡ divided F (⊖ (x ⊗ value)) (slope ⊗ power)
-      → ¬ (eval F D (inv x) ≡ 𝟘) → result_ok r ≡ Some (forney F W D x first)
-  forney_is W D x value slope power first r h v s p e sloped =
-      ap result_ok (e ∙ ap₂ (λ t u. divided F (⊖ (x ⊗ t)) u) v (ap₂ ◌⊗◌ s p)
-      ∙ divided_twice (⊖ (x ⊗ eval F W (inv x))) (eval F D (inv x)) (pow F x first) sloped (pow_ne_zero F x h first))
+  quotient_is : (W D : List A) (x : A) (first : ℕ) → ¬ (x ≡ 𝟘) → ¬ (eval F D (inv x) ≡ 𝟘)
+      → divided F (⊖ (x ⊗ eval F W (inv x))) (eval F D (inv x) ⊗ pow F x first) ≡ Ok (forney F W D x first)
+  quotient_is W D x first h sloped = divided_twice (⊖ (x ⊗ eval F W (inv x))) (eval F D (inv x)) (pow F x first) sloped (pow_ne_zero F x h first)
+
+  -- from what each step answers
+  pub forney_is : (W D : List A) (x back value slope : A) (first : ℕ) → ¬ (x ≡ 𝟘) → 0 < length W
+      → inverse F x ≡ Ok back → asked (length W) (eval F W back) ≡ Ok value → result_ok (asked (length D) (eval F D back)) ≡ Some slope
+      → ¬ (eval F D (inv x) ≡ 𝟘) → result_ok (divided F (⊖ (x ⊗ value)) (slope ⊗ pow F x first)) ≡ Some (forney F W D x first)
+  forney_is W D x back value slope first h some is-back is-value is-slope sloped =
+      let inverse-is = inverse_of_other F x h in
+      let value-is = asked_some (length W) (eval F W back) some in
+      let slope-is = evaluated D back slope is-slope in
+      let change-is = quotient_is W D x first h sloped in
+      cc

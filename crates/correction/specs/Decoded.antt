@@ -11,7 +11,6 @@ use Rattle.algebra.specs.Series.{All, deriv}
 use Rattle.polynomial.specs.Roots.{roots}
 use Rattle.correction.specs.Forney.{Valued}
 use Rattle.correction.specs.Listing.{OnRow, record_of}
-use Rattle.correction.specs.Proposals.{proposed}
 use Rattle.book.specs.declared.pattern.Pattern.{Pattern}
 
 module _ {E S : Type 0} (F : FieldOn E) (up : S → E) (N : Numbers S) (s : List E) (marks : List Bool) (a : E) (first : ℕ) where
@@ -33,6 +32,6 @@ module _ {E S : Type 0} (F : FieldOn E) (up : S → E) (N : Numbers S) (s : List
     pub few : length (positions marks) + length (found n) ≤ 16
     pub within : 2 * (length located - 1) + length (positions marks) ≤ length s
 
-  abbrev pub Tells : Option Pattern → Type 0
-  Tells r = (n : ℕ) (Y : ℕ → ℕ) → Complete n Y
-      → proposed r ≡ Some (map (record_of (length marks) Y) (positions marks) ++ map (record_of (length marks) Y) (found n))
+  pub record Tells (r : Option Pattern) : Type 0 where
+    pub records : (n : ℕ) (Y : ℕ → ℕ) → Complete n Y
+        → r ≡ Some (map (record_of (length marks) Y) (positions marks) ++ map (record_of (length marks) Y) (found n))

@@ -2,4 +2,4 @@ pub mod Decoded
 pub mod Forney
 pub mod Listing
 pub mod Proposals
-pub mod Room
+pub mod Changes

@@ -1,23 +1,16 @@
 -- Proposals, and what is promised of one. Assumes nothing.
---   proposed   the records of an answer that may be none
 --   Proposes   wherever a row is near, the proposal is its changes
 --   worked     the working list after a search
-use Rattle.std.specs.Prelude.{◌≡◌, ℕ, ◌+◌, ◌*◌, ◌≤◌, cond, List, length, replicate, Some, None, Option, nat_lt}
+use Rattle.std.specs.Prelude.{◌≡◌, ℕ, ◌+◌, ◌*◌, ◌≤◌, cond, List, length, replicate, Some, Option, nat_lt}
 use Rattle.algebra.specs.Field.{FieldOn}
 use Rattle.book.specs.Book.{Book}
 use Rattle.book.specs.Codes.{Rows, Near}
 use Rattle.book.specs.Mending.{changes}
-use Rattle.book.specs.Patterns.{held}
 use Rattle.book.specs.declared.pattern.Pattern.{Pattern}
-use Rattle.book.specs.declared.record.Record.{Record}
-
-abbrev pub proposed : Option Pattern → Option (List Record)
-proposed None = None
-proposed (Some p) = Some (held p)
 
 -- wherever a row is near, and within the limit, a working list of w entries being long enough: the proposal is its changes
 abbrev pub Proposes : Rows → Book → ℕ → Option Pattern → Type 0
-Proposes C b w r = (n : List ℕ) → length b ≤ C.limit → 12 * (C.bound + 2) ≤ w → Near C b n → proposed r ≡ Some (changes C b n)
+Proposes C b w r = (n : List ℕ) → length b ≤ C.limit → 12 * (C.bound + 2) ≤ w → Near C b n → r ≡ Some (changes C b n)
 
 -- the working list after a search: all ZERO, or as it was where it is too short
 abbrev pub worked : {A : Type 0} → FieldOn A → ℕ → List A → List A

@@ -9,55 +9,55 @@ use field::field::{ExtensionField, Field};
 use field::powers::powi;
 use polynomial::polynomial::evaluate;
 
+/// What the equation reads: the evaluator, the derivative, and where the roots of the generator polynomial begin, which
+/// are powers of one element.
+#[derive(Drop)]
+pub(crate) struct Forney<'a, E: ExtensionField> {
+    pub(crate) evaluator: &'a [E],
+    pub(crate) derivative: &'a [E],
+    pub(crate) root: E,
+    pub(crate) first: usize,
+    ghost nonzero: { root ≢ E.Field.field.𝟘 },
+    ghost small: { first ≤ 65535 },
+    ghost some: { 0 < length evaluator.now },
+    ghost alphabet: { E.BaseField.Field.numbers.size ≡ 32 },
+}
+
 // x to a power.
-fn power<F: Field>(x: F, n: usize) -> Option<F>
+fn power<F: Field>(x: F, n: usize) -> F
     requires { n ≤ 65535 }
-    ensures { result ≡ Some (pow F.field x n) }
+    ensures { result ≡ pow F.field x n }
 {
-    powi(x, n as i64).ok()
+    powi(x, n as i64).unwrap()
 }
 
-// The change at a locator x, none where the derivative is ZERO at 1/x:
-//
-//                 evaluator(1/x)
-//     -  -------------------------------
-//        x^(first - 1) derivative(1/x)
-//
-// where first is the first exponent of the generator's roots.
-pub(crate) fn error_value<F: Field>(
-    evaluator: &[F],
-    derivative: &[F],
-    x: F,
-    first: usize,
-) -> Option<F>
-    requires nonzero { x ≢ F.field.𝟘 }
-    requires small { first ≤ 65535 }
-    requires some { 0 < length evaluator.now }
-    ensures { (eval F.field derivative.now (F.field.inv x) ≢ F.field.𝟘) → result ≡ Some (forney F.field evaluator.now derivative.now x first) }
-{
-    let back = x.multiplicative_inverse().ok()?;
-    let value = evaluate(evaluator, back).ok()?;
-    let slope = evaluate(derivative, back).ok()?;
-    quotient(x.mul(value).neg(), slope.mul(power(x, first)?)).ok()
-}
+impl<E: ExtensionField> Forney<'_, E> {
+    ghost use Rattle.correction.specs.Changes.{ChangeAt};
 
-// The number of the symbol that the change at a position is, none where it is none.
-pub(crate) fn change_at<E: ExtensionField>(
-    evaluator: &[E],
-    derivative: &[E],
-    a: E,
-    first: usize,
-    position: usize,
-) -> Option<u8>
-    requires nonzero { a ≢ E.Field.field.𝟘 }
-    requires small { first ≤ 65535 }
-    requires near { position ≤ 65535 }
-    requires some { 0 < length evaluator.now }
-    requires size { E.BaseField.Field.numbers.size ≡ 32 }
-    ensures { (y : ℕ) → Valued E.Field.field E.lifted E.BaseField.Field.numbers evaluator.now derivative.now a first position y → result ≡ Some y }
-{
-    E::lift_laws();
-    let value = error_value(evaluator, derivative, power(a, position)?, first)?;
-    let symbol = value.drop_to_base()?;
-    Some(symbol.to_number() as u8)
+    // The change at a locator x, none where the derivative is ZERO at 1/x:
+    //
+    //                 evaluator(1/x)
+    //     -  -------------------------------
+    //        x^(first - 1) derivative(1/x)
+    //
+    // where first is the first exponent of the generator's roots.
+    fn value(&self, x: E) -> Option<E>
+        requires { x ≢ E.Field.field.𝟘 }
+        ensures { (eval E.Field.field self.now.derivative.now (E.Field.field.inv x) ≢ E.Field.field.𝟘) → result ≡ Some (forney E.Field.field self.now.evaluator.now self.now.derivative.now x self.now.first) }
+    {
+        let back = x.multiplicative_inverse().unwrap();
+        let value = evaluate(self.evaluator, back).unwrap();
+        let slope = evaluate(self.derivative, back).ok()?;
+        quotient(x.mul(value).neg(), slope.mul(power(x, self.first))).ok()
+    }
+
+    // The number of the symbol that the change at a position is, none where it is none.
+    pub(crate) fn change_at(&self, position: usize) -> Option<u8>
+        requires { position ≤ 65535 }
+        ensures { (y : ℕ) → ChangeAt self.now position y → result ≡ Some y }
+    {
+        E::lift_laws();
+        let symbol = self.value(power(self.root, position))?.drop_to_base()?;
+        Some(symbol.to_number() as u8)
+    }
 }

@@ -1,125 +1,145 @@
 // From syndromes to locators: the erasures are folded out of the syndromes, the shortest register of what is left locates
-// the errors, and its product with the erasures' locator is the locator of both. The lists are parts of a working list;
-// each has at least two entries more than there are syndromes, and the register's second list twice as many.
-ghost use Rattle.std.specs.Prelude.{◌≡◌, ℕ, ◌+◌, ◌*◌, ◌<◌, ◌≤◌, ◌++◌, length, take, drop, Ok, ◌≢◌};
+// the errors, and its product with the erasures' locator is the locator of both. Each list is written at the front of a
+// part of the working list, and lent on from there.
+ghost use Rattle.std.specs.Prelude.{◌≡◌, ◌+◌, ◌-◌, ◌*◌, ◌<◌, ◌≤◌, min, length, take, ◌≢◌};
 ghost use Rattle.algebra.specs.Decode.{error_locator, errata_locator, errata_evaluator};
 ghost use Rattle.algebra.specs.Field.{pow};
 ghost use Rattle.algebra.specs.Poly.{coeff, eval};
 ghost use Rattle.algebra.specs.Rows.{count, positions};
 ghost use Rattle.algebra.specs.Series.{deriv, lin, locator};
-ghost use Rattle.correction.specs.Room.{Room};
+ghost use Rattle.lfsr.specs.Registers.{connection};
+ghost use Rattle.polynomial.specs.Lists as spec;
 
 use field::arithmetic::difference;
 use field::field::Field;
-use fieldvec::fault::ListFault;
 use lfsr::lfsr::berlekamp_massey;
 use polynomial::polynomial::formal_derivative;
 use products::products::{convolution, mul_mod_x_d};
+use std::mem;
 
-/// How many entries the lists that are found have.
-#[derive(Clone, Copy)]
-pub(crate) struct Found {
-    pub(crate) errors: usize,
-    pub(crate) evaluator: usize,
-    pub(crate) derivative: usize,
+/// What decoding finds: the error locator, and the evaluator and the derivative of the locator of errors and erasures.
+pub(crate) struct Located<'a, E> {
+    pub(crate) errors: &'a [E],
+    pub(crate) evaluator: &'a [E],
+    pub(crate) derivative: &'a [E],
 }
 
-// The list at the front, of a given length, times 1 - x z.
-fn times_linear<F: Field>(list: &mut [F], len: usize, x: F)
-    requires { len < length list.old }
-    ensures { list.new ≡ lin F.field x (take len list.old) ++ drop (len + 1) list.old }
+// The list, its last entry aside, times 1 - x z.
+fn times_linear<F: Field>(list: &mut [F], x: F)
+    requires { 0 < length list.old }
+    ensures { list.new ≡ lin F.field x (take (length list.old - 1) list.old) }
 {
+    let (top, list) = list.split_last_mut().unwrap();
     let mut below = F::zero();
-    for i in 0..len {
-        let entry = list[i];
-        list[i] = difference(entry, x.mul(below));
-        below = entry;
+    for entry in list.iter_mut() {
+        let next = difference(*entry, x.mul(below));
+        below = mem::replace(entry, next);
     }
-    list[len] = difference(F::zero(), x.mul(below));
+    *top = difference(F::zero(), x.mul(below));
 }
 
-// The product of 1 - a^p z over the positions p that are marked, the last place being position 0; it answers the length.
-fn erasure_locator<F: Field>(marks: &[bool], a: F, list: &mut [F]) -> usize
+// The product of 1 - a^p z over the positions p that are marked, the last place being position 0.
+fn erasure_locator<'a, F: Field>(marks: &[bool], a: F, list: &'a mut [F]) -> &'a [F]
     requires { count marks.now < length list.old }
-    ensures size { result ≡ count marks.now + 1 }
-    ensures list { list.new ≡ locator F.field (pow F.field a) (positions marks.now) ++ drop (count marks.now + 1) list.old }
+    ensures list { result.now ≡ locator F.field (pow F.field a) (positions marks.now) }
+    ensures size { length result.now ≡ count marks.now + 1 }
 {
     list[0] = F::one();
     let mut len = 1;
     let mut power = F::one();
-    for place in (0..marks.len()).rev() {
-        if marks[place] {
-            times_linear(list, len, power);
+    for marked in marks.iter().rev() {
+        if *marked {
             len += 1;
+            times_linear(&mut list[..len], power);
         }
         power = a.mul(power);
     }
-    len
+    &list[..len]
 }
 
-// What a list function answers that has no reason to refuse.
-fn accepted(answer: Result<usize, ListFault>) -> usize
-    requires { (n : ℕ) × (answer ≡ Ok n) }
-    ensures { answer ≡ Ok result }
+// The syndromes with the erasures folded out.
+#[tactic(auto, using(crate::proofs::Sizes::few_convolved, crate::proofs::Sizes::some_convolved))]
+fn folded_syndromes<'a, F: Field>(erasures: &[F], s: &[F], list: &'a mut [F]) -> &'a [F]
+    requires given { 0 < length erasures.now }
+    requires room { length s.now < length list.old }
+    ensures list { result.now ≡ spec.convolved F.field erasures.now s.now }
+    ensures some { 0 < length result.now }
 {
-    match answer {
-        Ok(n) => n,
-        Err(_) => unreachable(),
-    }
+    let n = convolution(erasures, s, list).unwrap();
+    &list[..n]
 }
 
-// The locators of the erasures, which are the marked places, and of the errors, at the fronts of `gamma` and of `conn`; it
-// answers their lengths.
-fn locators<F: Field>(
+// The connection list of the shortest register that generates the terms.
+#[tactic(auto, using(crate::proofs::Sizes::some_connection))]
+fn connection_list<'a, F: Field>(terms: &[F], list: &'a mut [F], second: &mut [F]) -> &'a [F]
+    requires given { 0 < length terms.now }
+    requires room { length terms.now < length list.old }
+    requires second { 2 * (length terms.now + 1) ≤ length second.old }
+    ensures list { result.now ≡ connection F.field terms.now }
+    ensures some { 0 < length result.now }
+{
+    let n = berlekamp_massey(terms, list, second).unwrap();
+    &list[..n]
+}
+
+// The product of two lists, cut at d.
+#[tactic(auto, using(crate::proofs::Sizes::cut_product, crate::proofs::Sizes::few_product, crate::proofs::Sizes::some_product))]
+fn product<'a, F: Field>(p: &[F], q: &[F], d: usize, list: &'a mut [F]) -> &'a [F]
+    requires left { 0 < length p.now }
+    requires right { 0 < length q.now }
+    requires room { min d (length p.now + length q.now) ≤ length list.old }
+    ensures list { result.now ≡ spec.product F.field p.now q.now d }
+    ensures some { 0 < d → 0 < length result.now }
+{
+    let n = mul_mod_x_d(p, q, d, list).unwrap();
+    &list[..n]
+}
+
+// The formal derivative of a list.
+#[tactic(auto, using(crate::proofs::Sizes::few_derivative))]
+fn derivative_of<'a, F: Field>(p: &[F], list: &'a mut [F]) -> &'a [F]
+    requires given { 0 < length p.now }
+    requires room { length p.now ≤ length list.old + 1 }
+    ensures { result.now ≡ spec.derivative F.field p.now }
+{
+    let n = formal_derivative(p, list).unwrap();
+    &list[..n]
+}
+
+// What decoding the syndromes s finds, the marked places being erased. The working list is cut into parts of two entries
+// more than there are syndromes, and the register's second list, which has twice as many.
+#[tactic(auto, using(crate::proofs::Sizes::few_convolved))]
+pub(crate) fn locate<'a, F: Field>(
     s: &[F],
     marks: &[bool],
     a: F,
-    gamma: &mut [F],
-    folded: &mut [F],
-    conn: &mut [F],
-    second: &mut [F],
-) -> (usize, usize)
-    requires given { (count marks.now ≤ length s.now) × ((1 ≤ length s.now) × ((length s.now ≤ 16) × (a ≢ F.field.𝟘))) }
-    requires room { (length s.now + 2 ≤ length gamma.old) × ((length s.now + 2 ≤ length folded.old) × ((length s.now + 2 ≤ length conn.old) × (2 * (length s.now + 2) ≤ length second.old))) }
-    ensures erasures { take result.0 gamma.new ≡ locator F.field (pow F.field a) (positions marks.now) }
-    ensures errors { take result.1 conn.new ≡ error_locator F.field (pow F.field a) (positions marks.now) (coeff F.field s.now) (length s.now) }
-    ensures sizes { (result.0 ≤ length gamma.old) × ((result.1 ≤ length conn.old) × (0 < result.1)) }
+    work: &'a mut [F],
+) -> Located<'a, F>
+    requires few { count marks.now ≤ length s.now }
+    requires some { 1 ≤ length s.now }
+    requires short { length s.now ≤ 16 }
+    requires nonzero { a ≢ F.field.𝟘 }
+    requires room { 8 * (length s.now + 2) ≤ length work.old }
+    ensures errors { result.errors.now ≡ error_locator F.field (pow F.field a) (positions marks.now) (coeff F.field s.now) (length s.now) }
+    ensures evaluator { (x : F) → eval F.field result.evaluator.now x ≡ eval F.field (errata_evaluator F.field (pow F.field a) (positions marks.now) (coeff F.field s.now) (length s.now)) x }
+    ensures slopes { (x : F) → eval F.field result.derivative.now x ≡ eval F.field (deriv F.field (errata_locator F.field (pow F.field a) (positions marks.now) (coeff F.field s.now) (length s.now))) x }
+    ensures some_errors { 0 < length result.errors.now }
+    ensures some_values { 0 < length result.evaluator.now }
 {
-    let erasures = erasure_locator(marks, a, gamma);
-    let terms = accepted(convolution(&gamma[..erasures], s, folded));
-    let errors = accepted(berlekamp_massey(&folded[..terms], conn, second));
-    (erasures, errors)
-}
-
-// What decoding the syndromes s finds, the marked places being erased: the error locator at the front of `conn`, the
-// evaluator and the derivative of the errata locator at the fronts of theirs.
-pub(crate) fn locate<F: Field>(
-    s: &[F],
-    marks: &[bool],
-    a: F,
-    gamma: &mut [F],
-    folded: &mut [F],
-    conn: &mut [F],
-    second: &mut [F],
-    errata: &mut [F],
-    evaluator: &mut [F],
-    derivative: &mut [F],
-) -> Found
-    requires given { (count marks.now ≤ length s.now) × ((1 ≤ length s.now) × ((length s.now ≤ 16) × (a ≢ F.field.𝟘))) }
-    requires room { Room (length s.now) (length gamma.old) (length folded.old) (length conn.old) (length second.old) (length errata.old) (length evaluator.old) (length derivative.old) }
-    ensures errors { take result.errors conn.new ≡ error_locator F.field (pow F.field a) (positions marks.now) (coeff F.field s.now) (length s.now) }
-    ensures evaluator { (x : F) → eval F.field (take result.evaluator evaluator.new) x ≡ eval F.field (errata_evaluator F.field (pow F.field a) (positions marks.now) (coeff F.field s.now) (length s.now)) x }
-    ensures slopes { (x : F) → eval F.field (take result.derivative derivative.new) x ≡ eval F.field (deriv F.field (errata_locator F.field (pow F.field a) (positions marks.now) (coeff F.field s.now) (length s.now))) x }
-    ensures sizes { (result.errors ≤ length conn.old) × ((result.evaluator ≤ length evaluator.old) × (result.derivative ≤ length derivative.old)) }
-    ensures some { (0 < result.errors) × (0 < result.evaluator) }
-{
-    let (erasures, errors) = locators(s, marks, a, gamma, folded, conn, second);
-    let both = accepted(mul_mod_x_d(&conn[..errors], &gamma[..erasures], usize::MAX, errata));
-    let values = accepted(mul_mod_x_d(&errata[..both], s, s.len(), evaluator));
-    let slopes = accepted(formal_derivative(&errata[..both], derivative));
-    Found {
+    let part = s.len() + 2;
+    let (erasures, rest) = work.split_at_mut(part);
+    let (terms, rest) = rest.split_at_mut(part);
+    let (errors, rest) = rest.split_at_mut(part);
+    let (second, rest) = rest.split_at_mut(2 * part);
+    let (errata, rest) = rest.split_at_mut(part);
+    let (evaluator, derivative) = rest.split_at_mut(part);
+    let erasures = erasure_locator(marks, a, erasures);
+    let terms = folded_syndromes(erasures, s, terms);
+    let errors = connection_list(terms, errors, second);
+    let errata = product(errors, erasures, usize::MAX, errata);
+    Located {
         errors,
-        evaluator: values,
-        derivative: slopes,
+        evaluator: product(errata, s, s.len(), evaluator),
+        derivative: derivative_of(errata, derivative),
     }
 }

@@ -1,6 +1,6 @@
 // Syndromes: the residue of a slip's row less the target, at the roots of the generator polynomial. They depend on the
 // row's changes alone.
-ghost use Rattle.std.specs.Prelude.{◌≡◌, ◌+◌, ◌<◌, ◌≤◌, ◌++◌, map, length, drop};
+ghost use Rattle.std.specs.Prelude.{◌≡◌, ◌+◌, ◌<◌, map, length};
 ghost use Rattle.algebra.specs.Code.{bound, checks};
 ghost use Rattle.algebra.specs.Field.{pow};
 ghost use Rattle.algebra.specs.Poly.{eval, poly_sub, tab};
@@ -15,32 +15,14 @@ use field::powers::powers;
 use polynomial::polynomial::evaluate_lifted;
 use slip::slip::Slip;
 
-// The value at x of a list that has an entry.
-fn value_at<E: ExtensionField>(list: &[E::BaseField], x: E) -> E
+// The values of a list at consecutive powers of an element, from an exponent on.
+fn values_at_powers<E: ExtensionField>(list: &[E::BaseField], a: E, first: usize, out: &mut [E])
     requires { 0 < length list.now }
-    ensures { result ≡ eval E.Field.field (map E.lifted list.now) x }
-{
-    match evaluate_lifted(list, x) {
-        Ok(value) => value,
-        Err(_) => unreachable(),
-    }
-}
-
-// The values of a list at n consecutive powers of an element, at the front of another.
-fn values_at_powers<E: ExtensionField>(
-    list: &[E::BaseField],
-    a: E,
-    first: usize,
-    n: usize,
-    out: &mut [E],
-)
-    requires some { 0 < length list.now }
-    requires room { n ≤ length out.old }
-    ensures { out.new ≡ tab n (λ j. eval E.Field.field (map E.lifted list.now) (pow E.Field.field a (first + j))) ++ drop n out.old }
+    ensures { out.new ≡ tab (length out.old) (λ j. eval E.Field.field (map E.lifted list.now) (pow E.Field.field a (first + j))) }
 {
     let mut power = powers(a).nth(first);
-    for j in 0..n {
-        out[j] = value_at(list, power);
+    for value in out.iter_mut() {
+        *value = evaluate_lifted(list, power).unwrap();
         power = a.mul(power);
     }
 }
@@ -56,11 +38,11 @@ fn subtract_target<C: Checksum>(residue: &mut [C::SymbolField])
     }
 }
 
-// The syndromes of a slip's row, as many as the bound, at the front of a list.
+// The syndromes of a slip's row, as many as the bound.
 #[tactic(auto, using(checksum::proofs::Sizes::engine_fits))]
 pub(crate) fn syndromes<C: Checksum>(slip: &Slip, out: &mut [C::CorrectionField])
-    requires { bound C.Checksum.code ≤ length out.old }
-    ensures { out.new ≡ tab (bound C.Checksum.code) (syndrome C.SymbolField.Field.field C.CorrectionField.Field.field C.CorrectionField.ExtensionField.lifted C.Checksum.code (elements C.SymbolField.Field.numbers (row slip.now))) ++ drop (bound C.Checksum.code) out.old }
+    requires { length out.old ≡ bound C.Checksum.code }
+    ensures { out.new ≡ tab (bound C.Checksum.code) (syndrome C.SymbolField.Field.field C.CorrectionField.Field.field C.CorrectionField.ExtensionField.lifted C.Checksum.code (elements C.SymbolField.Field.numbers (row slip.now))) }
 {
     C::laws();
     C::SymbolField::small();
@@ -69,6 +51,6 @@ pub(crate) fn syndromes<C: Checksum>(slip: &Slip, out: &mut [C::CorrectionField]
     let error = &mut error[..C::checksum_length()];
     error.copy_from_slice(engine.residue());
     subtract_target::<C>(error);
-    let (first, last) = C::root_exponents();
-    values_at_powers(error, C::root_generator(), first, last - first + 1, out);
+    let (first, _) = C::root_exponents();
+    values_at_powers(error, C::root_generator(), first, out);
 }

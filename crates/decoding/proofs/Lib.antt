@@ -4,5 +4,4 @@ pub mod Found
 pub mod Linear
 pub mod Listed
 pub mod Locates
-pub mod ResidueErrors
 pub mod RootPositions

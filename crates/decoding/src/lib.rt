@@ -1,5 +1,6 @@
 // What is proved of every code, whatever its fields: each function's contract is a theorem, in the words of the algebra,
-// and its body asks the code for the laws that the theorem rests on. None of them uses that x + x is ZERO.
+// and its body asks the code for the laws that the theorem rests on. None of them uses that x + x is ZERO. They differ in their
+// clause alone, which is the theorem: each has a name of its own, by which it is cited.
 #![tactic(auto)]
 
 ghost use Rattle.algebra.specs.Rows.{SyndromesOfChanges, Distance, OneNear, OneMoreDoubt, Mends};

@@ -50,7 +50,7 @@ pub trait Field: Copy + PartialEq {
     fn multiplicative_inverse(self) -> Result<Self, FieldFault>
         ensures { result ≡ inverse field self };
 
-    /// The number that the element stands for.
+    /// The number that the element stands for. A method, as `from_number`, and no `From`: the laws below speak of both.
     fn to_number(self) -> u16
         ensures { result ≡ numbers.number self };
 

@@ -1,8 +1,9 @@
 -- Lists that a loop fills from the front, and what a call that fills one answers. Assumes nothing.
-use Rattle.std.proofs.Common.{◌≡◌, ℕ, zero, suc, ◌+◌, ◌-◌, ◌<◌, ◌≤◌, cond, eqb, ltb, List, [], ◌∷◌, ◌++◌, length, get_or, drop, set, replicate, IsErrAnd, Ok, Err, Result, sym, refl, ap, ◌∙◌, ap₂, append_assoc, append-nil, add-one, arith}
+use Rattle.std.proofs.Common.{◌≡◌, ℕ, zero, suc, ◌+◌, ◌-◌, ◌<◌, ◌≤◌, cond, eqb, ltb, List, [], ◌∷◌, ◌++◌, length, get_or, drop, set, replicate, IsErrAnd, Ok, Err, Result, sym, refl, ap, ◌∙◌, ap₂, subst, append_assoc, append-nil, add-one, arith}
 use Rattle.std.proofs.lemmas.List.{get_or-append_right, get_or-drop, length-set, set_at, drop_more, drop_all}
 use Rattle.std.proofs.lemmas.Bool.{ne_eqb, lt-ltb, le-ltb, cond-true, cond-false}
 use Rattle.std.proofs.lemmas.Result.{err_from_is_err_and}
+use Rattle.std.specs.List.{FoldsTo}
 use Rattle.algebra.specs.Poly.{tab}
 use Rattle.algebra.proofs.Tab.{length_tab}
 use Rattle.fieldvec.specs.Faults.{asked, admitted, placed, count, written}
@@ -68,15 +69,18 @@ module _ {A : Type 0} (given : ℕ) (new old : List A) (r : Result ℕ ListFault
 pub filled_all : {A : Type 0} (f : ℕ → A) (j n : ℕ) (new old w : List A) → j ≡ n → tab n f ≡ new → Filled f j old w → w ≡ new ++ drop n old
 filled_all f j n new old w e same filled = filled.is ∙ ap (λ k. tab k f ++ drop k old) e ∙ ap (λ t. t ++ drop n old) same
 
--- a list filled to its end with one entry
-pub filled_same : {A : Type 0} (x : A) (j : ℕ) (old w : List A) → j ≡ length old → Filled (λ _. x) j old w → w ≡ replicate (length old) x
-filled_same {A = A} x j old w e filled =
-    filled_all (λ _. x) j (length old) (replicate (length old) x) old w e (go (length old)) filled
-    ∙ ap (λ t. replicate (length old) x ++ t) (drop_all (length old) old (omega arith)) ∙ append-nil (replicate (length old) x)
-  where
-    go : (n : ℕ) → tab n (λ _. x) ≡ replicate n x
-    go zero = refl
-    go (suc n) = ap (λ t. x ∷ t) (go n)
+-- a list filled to its end is the list that its terms are
+pub filled_whole : {A : Type 0} (f : ℕ → A) (j n : ℕ) (e w : List A) → j ≡ n → length e ≡ n → Filled f j e w → w ≡ tab n f
+filled_whole f j n e w all size filled =
+    filled_all f j n (tab n f) e w all refl filled
+    ∙ ap (λ t. tab n f ++ t) (drop_all n e (omega arith)) ∙ append-nil (tab n f)
+
+-- a list that a closure fills which answers one entry each time
+pub filled_with : {F A : Type 0} (step : F → A → F → Type 0) (f : F) (x : A) → ((y : A) (f' : F) → step f y f' → (y ≡ x) × (f' ≡ f)) → (w : List A) (last : F) → FoldsTo step f w last → w ≡ replicate (length w) x
+filled_with step f x each [] last ran = refl
+filled_with step f x each (y ∷ w) last ran =
+    let once = each y ran.0 ran.1 in
+    ap₂ ◌∷◌ once.0 (filled_with step f x each w last (subst (λ h. FoldsTo step h w last) once.1 ran.2))
 
 pub asked_some : {X : Type 0} (given : ℕ) (x : X) → 0 < given → Ok x ≡ asked given x
 asked_some given x h = sym (cond-false (eqb given 0) (Err Empty) (Ok x) (ne_eqb given 0 (λ e. omega arith)))

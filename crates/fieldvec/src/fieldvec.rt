@@ -3,7 +3,7 @@ ghost use Rattle.std.specs.Prelude.{◌≡◌, ◌+◌, ◌≤◌, min, ◌++◌
 ghost use Rattle.algebra.specs.Field.{pow};
 ghost use Rattle.algebra.specs.Poly.{tab, coeff, poly_add, poly_sub};
 ghost use Rattle.fieldvec.specs.Faults.{count, written};
-ghost use Rattle.fieldvec.specs.Pointwise.{pointwise};
+ghost use Rattle.fieldvec.specs.Pointwise.{Answers, by_entries, pointwise};
 
 use crate::fault::{ListFault, admit};
 use field::arithmetic::difference;
@@ -13,7 +13,27 @@ use field::field::{ExtensionField, Field};
 fn entry<F: Field>(list: &[F], i: usize) -> F
     ensures { result ≡ coeff F.field list.now i }
 {
-    if i < list.len() { list[i] } else { F::zero() }
+    list.get(i).copied().unwrap_or(F::zero())
+}
+
+// What an operation answers for the entries at each place of two lists, as long as the longer.
+fn combined<F: Field, O: Fn(F, F) -> F>(
+    a: &[F],
+    b: &[F],
+    out: &mut [F],
+    of: O,
+) -> Result<usize, ListFault>
+    requires { O.IsAlwaysCallable of }
+    ensures answer { (h : F → F → F) → Answers O.Fn of h →
+        result ≡ count (min (length a.now) (length b.now)) (by_entries F.field h a.now b.now) out.old }
+    ensures answered { (h : F → F → F) → Answers O.Fn of h →
+        out.new ≡ written (min (length a.now) (length b.now)) (by_entries F.field h a.now b.now) out.old }
+{
+    let n = admit(a.len().min(b.len()), a.len().max(b.len()), out.len())?;
+    for (i, place) in out[..n].iter_mut().enumerate() {
+        *place = of(entry(a, i), entry(b, i));
+    }
+    Ok(n)
 }
 
 /// a + b, as long as the longer; it answers how many entries.
@@ -21,11 +41,7 @@ pub fn add<F: Field>(a: &[F], b: &[F], out: &mut [F]) -> Result<usize, ListFault
     ensures answer { result ≡ count (min (length a.now) (length b.now)) (poly_add F.field a.now b.now) out.old }
     ensures answered { out.new ≡ written (min (length a.now) (length b.now)) (poly_add F.field a.now b.now) out.old }
 {
-    let n = admit(a.len().min(b.len()), a.len().max(b.len()), out.len())?;
-    for i in 0..n {
-        out[i] = entry(a, i).add(entry(b, i));
-    }
-    Ok(n)
+    combined(a, b, out, |x, y| x.add(y))
 }
 
 /// a - b, as long as the longer; it answers how many entries.
@@ -33,11 +49,7 @@ pub fn sub<F: Field>(a: &[F], b: &[F], out: &mut [F]) -> Result<usize, ListFault
     ensures answer { result ≡ count (min (length a.now) (length b.now)) (poly_sub F.field a.now b.now) out.old }
     ensures answered { out.new ≡ written (min (length a.now) (length b.now)) (poly_sub F.field a.now b.now) out.old }
 {
-    let n = admit(a.len().min(b.len()), a.len().max(b.len()), out.len())?;
-    for i in 0..n {
-        out[i] = difference(entry(a, i), entry(b, i));
-    }
-    Ok(n)
+    combined(a, b, out, |x, y| difference(x, y))
 }
 
 /// The powers of x up to the exponent n, n + 1 entries. No list is given.
@@ -49,8 +61,8 @@ pub fn from_powers<F: Field>(x: F, n: usize, out: &mut [F]) -> Result<usize, Lis
         return Err(ListFault::Short);
     }
     let mut power = F::one();
-    for i in 0..n + 1 {
-        out[i] = power;
+    for place in out[..=n].iter_mut() {
+        *place = power;
         power = x.mul(power);
     }
     Ok(n + 1)
@@ -62,8 +74,8 @@ pub fn mul_assign_pointwise<F: Field>(list: &mut [F], other: &[F]) -> Result<usi
     ensures answered { list.new ≡ written (min (length list.old) (length other.now)) (pointwise F.field list.old other.now) list.old }
 {
     let n = admit(list.len().min(other.len()), list.len(), list.len())?;
-    for i in 0..n {
-        list[i] = list[i].mul(entry(other, i));
+    for (i, place) in list.iter_mut().enumerate() {
+        *place = place.mul(entry(other, i));
     }
     Ok(n)
 }
@@ -74,8 +86,9 @@ pub fn lift<E: ExtensionField>(list: &[E::BaseField], out: &mut [E]) -> Result<u
     ensures answered { out.new ≡ written (length list.now) (map E.lifted list.now) out.old }
 {
     let n = admit(list.len(), list.len(), out.len())?;
-    for i in 0..n {
-        out[i] = E::lift(list[i]);
+    // By the list's index: of what is written under a `zip` of `iter_mut` and the list, a proof knows nothing.
+    for (i, place) in out[..n].iter_mut().enumerate() {
+        *place = E::lift(list[i]);
     }
     Ok(n)
 }
@@ -84,7 +97,7 @@ pub fn lift<E: ExtensionField>(list: &[E::BaseField], out: &mut [E]) -> Result<u
 pub fn clear<F: Field>(list: &mut [F])
     ensures { list.new ≡ replicate (length list.old) F.field.𝟘 }
 {
-    for i in 0..list.len() {
-        list[i] = F::zero();
-    }
+    // Not `fill`, which asks that an element's `clone` cannot fail: a field does not promise that.
+    let zero = F::zero();
+    list.fill_with(|| zero);
 }

@@ -1,12 +1,14 @@
--- What is known of an element whose inverse, and of a number whose element, was answered or refused. Assumes nothing.
-use Rattle.std.proofs.Common.{◌≡◌, ℕ, ◌<◌, Some, None, Ok, Err, sym, ap, ◌∙◌, arith}
-use native.Mathlib.Decide.{dec_lt}
-use Rattle.algebra.specs.Field.{FieldOn, Numbers}
+-- What is known of an element whose inverse, or whose place in the base, was answered or refused. Assumes nothing.
+use Rattle.std.proofs.Common.{◌≡◌, ℕ, Bool, true, false, Decides, Option, Ok, Err, sym, refl, ap, ◌∙◌, arith}
+use mathlib.Core.Path.{subst⁻¹}
+use Rattle.std.specs.Bool.{then_some}
+use Rattle.std.proofs.lemmas.Bool.{false≢true}
+use Rattle.algebra.specs.Field.{FieldOn, Drops}
 use Rattle.algebra.proofs.Laws.{zero_mul, inv_unique}
-use Rattle.field.specs.Elements.{inverse, numbered}
+use Rattle.field.specs.Elements.{inverse}
 use Rattle.field.specs.declared.fault.FieldFault.{FieldFault}
 use Rattle.field.specs.declared.fault.FieldFault.TheVariants.{Zero}
-use Rattle.field.proofs.Refusals.{inverse_of_zero, inverse_of_other, numbered_below, numbered_above}
+use Rattle.field.proofs.Refusals.{inverse_of_zero, inverse_of_other}
 
 module _ {A : Type 0} (F : FieldOn A) where
   -- an answer is the other factor of ONE
@@ -29,13 +31,10 @@ inverse_err F G x y e h f = by (F.discrete x F.𝟘)
     by (yes z) = let p = inverse_of_zero F x z in let same : Zero ≡ e = cc in inverse_of_zero G y (h z) ∙ ap Err same
     by (no z) = let p = inverse_of_other F x z in let n : ◌≡◌ {A = ℕ} 0 1 = cc in absurd (omega arith)
 
-module _ {A : Type 0} (N : Numbers A) where
-  pub numbered_some : (n : ℕ) (x : A) → numbered N n ≡ Some x → (n < N.size) × (N.element n ≡ x)
-  numbered_some n x e = by (dec_lt n N.size)
-    where
-      by : Dec (n < N.size) → (n < N.size) × (N.element n ≡ x)
-      by (yes h) = let p = numbered_below N n h in (h, cc)
-      by (no h) = let p = numbered_above N n h in let z : ◌≡◌ {A = ℕ} 0 1 = cc in absurd (omega arith)
-
-  pub numbered_none : (n : ℕ) → numbered N n ≡ None → ¬ (n < N.size)
-  numbered_none n e h = let p = numbered_below N n h in let z : ◌≡◌ {A = ℕ} 0 1 = cc in omega arith
+-- an element is dropped to its own part y where a test finds that it is what y lifts to
+pub dropped : {B A : Type 0} (up : B → A) (x lifted : A) (y : B) (r : Option B) (b : Bool) → Decides b (x ≡ lifted) → lifted ≡ up y → ((z : B) → up z ≡ x → z ≡ y) → r ≡ then_some b y → Drops up x r
+dropped up x lifted y r b d is own e = subst⁻¹ (Drops up x) e (by b d)
+  where
+    by : (b : Bool) → Decides b (x ≡ lifted) → Drops up x (then_some b y)
+    by true d = sym (d.0 refl ∙ is)
+    by false d = λ z f. false≢true (d.1 (sym f ∙ ap up (own z f) ∙ sym is))

@@ -3,6 +3,7 @@ use gf32::gf32::Fe32;
 
 pub mod arithmetic;
 
+// A record of its own and not one for every degree: its product and its inverse are formulas of degree 2.
 #[derive(Clone, Copy, PartialEq, Eq, Debug)]
 pub struct Fe1024 {
     pub c0: Fe32,

@@ -1,3 +1,3 @@
-pub mod Cutting
+pub mod Counted
 pub mod Putting
 pub mod Saying

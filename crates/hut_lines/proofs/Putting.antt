@@ -1,7 +1,7 @@
 -- Output lines that are put one behind another.
 use Rattle.std.proofs.Common.{◌≡◌, ℕ, ◌+◌, ◌-◌, ◌*◌, ◌<◌, ◌≤◌, List, [], length, get_or, take, drop, sym, ap, ◌∙◌, subst, inl, inr, arith}
-use borrow.Rule.Slice.PartMut.{mid_of, put_mid, same_len_mid}
-use Rattle.std.proofs.lemmas.List.{drop_at, drop-drop, drop-take, length-drop, length-take-le}
+use borrow.Rule.Slice.PartMut.{put_mid}
+use Rattle.std.proofs.lemmas.List.{drop_at, drop-drop, drop-take, length-take-le}
 use Rattle.std.proofs.lemmas.Slice.{drop-put_mid, take-put_mid, take-put_mid_below}
 use Rattle.std.proofs.lemmas.Bool.{cases_eq}
 use Rattle.book.specs.Codes.{Rows}
@@ -10,15 +10,6 @@ use Rattle.hut_lines.specs.Shown.{Output, Shown}
 module _ (out : List ℕ) (k : ℕ) (text : List ℕ) (room : 31 * k + 31 ≤ length out) (long : length text ≡ 31) where
   abbrev put : List ℕ
   put = put_mid (31 * k) ((31 * k + 31) - 31 * k) out text
-
-  pub put_length : length put ≡ length out
-  put_length =
-      let at = 31 * k in
-      let wide : (at + 31) - at ≡ 31 = omega arith in
-      let left = length-drop at out in
-      let mid : length (mid_of at ((at + 31) - at) out) ≡ 31 =
-      ap (λ (n : ℕ). length (take n (drop at out))) wide ∙ length-take-le 31 (drop at out) (omega arith) in
-      same_len_mid at ((at + 31) - at) out text (long ∙ sym mid)
 
   pub put_behind : (was : List ℕ) → drop (31 * k) out ≡ drop (31 * k) was → drop (31 * (k + 1)) put ≡ drop (31 * (k + 1)) was
   put_behind was e =

@@ -6,7 +6,7 @@ use Rattle.book.specs.Calls.{Answer, Follows, Mends, done, listed, lists, refuse
 use Rattle.book.specs.Codes.{Rows}
 use Rattle.book.specs.Mending.{changes, nonzero}
 use Rattle.book.specs.declared.record.Record.{Record}
-use Rattle.mending.proofs.Lessening.{row_sure}
+use Rattle.book.proofs.Rows.{row_sure}
 use Rattle.sheet.specs.Faults.{told}
 use Rattle.sheet.specs.ReadingOff.{read_off}
 use Rattle.sheet.specs.Taking.{take_line}

@@ -85,6 +85,11 @@ fn settle(slip: &mut Slip) -> Reply
         ask: Ask::Settle(code, LENT),
     }];
     let mut replies = [Ok(Answer::Done)];
-    run(slice::from_mut(slip), &turns, &mut replies, &mut One::<Finish>::desk());
+    run(
+        slice::from_mut(slip),
+        &turns,
+        &mut replies,
+        &mut One::<Finish>::desk(),
+    );
     replies[0]
 }

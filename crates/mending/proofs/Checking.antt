@@ -1,8 +1,7 @@
 -- Lists of records, record by record. Assumes nothing.
-use Rattle.std.proofs.Common.{◌≡◌, ℕ, ◌+◌, ◌<◌, Bool, true, false, cond, not, eqb, ◌||◌, ◌⊎◌, count_by, List, [], ◌∷◌, length, MatchBool, Decides, sym, refl, ◌∙◌, subst, inl, inr, arith}
+use Rattle.std.proofs.Common.{◌≡◌, ℕ, ◌<◌, Bool, true, false, eqb, ◌||◌, ◌⊎◌, List, [], ◌∷◌, length, MatchBool, Decides, sym, refl, ◌∙◌, subst, inl, inr, arith}
 use Rattle.std.specs.List.{AllWithin, HoldsAt, list_any, range_with_len}
 use Rattle.std.proofs.lemmas.List.FromFn.{length-range_with_len, get_or-range_with_len}
-use Rattle.std.proofs.lemmas.List.Recursion.{is_count_by}
 use Rattle.std.proofs.lemmas.Bool.{both_ways, cases_lt}
 use Rattle.std.proofs.lemmas.Bool.Decides.{Decides-eqb, Decides-like, Decides-or}
 use Rattle.algebra.specs.Series.{Mem, here, there}
@@ -17,14 +16,6 @@ decided_yes p = (λ q. p, λ q. refl)
 
 pub decided_no : {P : Type 0} → ¬ P → Decides false P
 decided_no n = (λ q. absurd (both_ways false refl q), λ p. absurd (n p))
-
--- how many records are not out, worked out record by record
-pub counted : (out : Record → Bool) (F : List Record → ℕ) → F [] ≡ 0 → ((c : Record) (cs : List Record) → F (c ∷ cs) ≡ cond (out c) 0 1 + F cs) → (cs : List Record) → count_by (λ c. not (out c)) cs ≡ F cs
-counted out F none more cs = sym (is_count_by F (λ c. not (out c)) none (λ c ds. more c ds ∙ by (out c) (F ds)) cs)
-  where
-    by : (t : Bool) (n : ℕ) → cond t 0 1 + n ≡ cond (not t) (1 + n) n
-    by true n = omega arith
-    by false n = refl
 
 mem_cases : {p q : ℕ} {ps : List ℕ} → Mem p (q ∷ ps) → (q ≡ p) ⊎ Mem p ps
 mem_cases here = inl refl

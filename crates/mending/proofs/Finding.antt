@@ -1,5 +1,5 @@
 -- From a proposal and what the checker says of it to the answers of solve and settle. Assumes nothing.
-use Rattle.std.proofs.Common.{◌≡◌, ℕ, ◌+◌, ◌*◌, ◌<◌, ◌≤◌, Bool, true, false, eqb, Decides, List, ◌++◌, count_by, map, length, not, take, drop, Some, None, Ok, Option, sym, refl, ap, ◌∙◌, subst, arith}
+use Rattle.std.proofs.Common.{◌≡◌, ℕ, ◌+◌, ◌*◌, ◌<◌, ◌≤◌, Bool, true, false, cond, eqb, ltb, leb, Decides, List, [], ◌∷◌, ◌++◌, count_by, map, length, not, take, drop, Some, None, Ok, Option, sym, refl, ap, ◌∙◌, subst, arith}
 use Rattle.std.proofs.lemmas.List.{take_at}
 use Rattle.std.proofs.lemmas.Bool.Decides.{nat_tests, not_from_Decides}
 use Rattle.std.specs.Option.{MatchOption, ok_or}
@@ -17,7 +17,6 @@ use Rattle.book.proofs.Fitting.{changes_fit, few_changes, fits_near}
 use Rattle.correction.specs.Proposals.{Proposes}
 use Rattle.book.specs.declared.pattern.Pattern.{Pattern}
 use Rattle.mending.specs.Found.{Finding, Found}
-use Rattle.mending.proofs.Checking.{counted}
 
 -- the number of ZERO, as the code works it out
 pub zero_number : {S : Type 0} (N : Numbers S) (F : FieldOn S) (z : S) (n : ℕ) → z ≡ F.𝟘 → n ≡ N.number z → N.number F.𝟘 ≡ n
@@ -100,8 +99,3 @@ module _ (C : Rows) (r w : ℕ) (b : Book) where
     settled_by es same next is-next =
         let row_is : next ≡ map sure f.meant = is-next ∙ ap (λ fs. map sure (subtracted C fs (row b))) same ∙ ap (map sure) f.subtracts in
         subst (λ d. Follows b (settle C r w) (listed (take i rs) i j) d) (sym row_is) (subst (λ a. Follows b (settle C r w) a (map sure f.meant)) (sym answer) (settles (one_near f.workable f.near)))
-
--- the records that change something, as they are counted
-pub nonzero_counted : (C : Rows) (nothing : ℕ) → C.nothing ≡ nothing → (cs : List Record) → count_by (λ c. not (eqb c.change nothing)) cs ≡ nonzero C cs
-nonzero_counted C nothing e cs =
-    ap (λ (n : ℕ). count_by (λ c. not (eqb c.change n)) cs) (sym e) ∙ counted (λ c. eqb c.change C.nothing) (nonzero C) refl (λ _ _. refl) cs

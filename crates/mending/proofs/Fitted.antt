@@ -14,7 +14,8 @@ use Rattle.book.proofs.Numbers.{elements_sound, sound_elements}
 use Rattle.mending.specs.Checked.{Admits, Formed, Sensible}
 use Rattle.slip.specs.View.{Holdable}
 use Rattle.slip.proofs.Below.{row_below}
-use Rattle.mending.proofs.Lessening.{at_each, row_sure}
+use Rattle.book.proofs.Rows.{row_sure}
+use Rattle.mending.proofs.Lessening.{at_each}
 
 module _ (b : Book) (nothing : ℕ) where
   all_admitted : (cs : List Record) → Sensible b nothing cs → All (Admits b nothing) cs

@@ -3,10 +3,11 @@ use Rattle.std.proofs.Common.{◌≡◌, ℕ, ◌+◌, ◌<◌, ◌≤◌, All, 
 use Rattle.std.proofs.lemmas.List.Elements.{All-cons, All-nil}
 use Rattle.std.proofs.lemmas.List.{at_drop_more, length-map, set_past}
 use Rattle.algebra.specs.Series as series
-use Rattle.book.specs.Book.{row, sure}
+use Rattle.book.specs.Book.{sure}
 use Rattle.book.specs.Codes.{Rows}
 use Rattle.book.specs.Mending.{subtracted}
 use Rattle.book.specs.declared.record.Record.{Record}
+use Rattle.book.proofs.Rows.{row_sure}
 use Rattle.slip.specs.View.{Holdable}
 
 -- what a slice holds past its end
@@ -22,10 +23,6 @@ module _ (C : Rows) (rs : List Record) (i : ℕ) (vs : List ℕ) (whole : List �
   subtract_past out =
       let x = C.less (get_or vs (get_or rs i blank).place 0) (get_or rs i blank).change in
       ap (subtracted C (drop (i + 1) rs)) (sym (set_past vs (get_or rs i blank).place x out)) ∙ subtract_more x refl
-
-pub row_sure : (vs : List ℕ) → row (map sure vs) ≡ vs
-row_sure [] = refl
-row_sure (v ∷ vs) = ap (λ (ws : List ℕ). v ∷ ws) (row_sure vs)
 
 -- from what holds by recursion to the same of each place
 pub at_each : {X : Type 0} (P : X → Type 0) (xs : List X) → series.All P xs → All P xs

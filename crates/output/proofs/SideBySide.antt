@@ -1,21 +1,8 @@
 -- Columns that are put into a text one behind another.
-use Rattle.std.proofs.Common.{◌≡◌, ℕ, ◌+◌, ◌-◌, ◌≤◌, List, ◌++◌, length, take, drop, sym, ap, ◌∙◌, append_assoc, arith}
-use borrow.Rule.Slice.PartMut.{put_mid}
-use Rattle.std.proofs.lemmas.List.{drop_at, drop-drop, length-append, length-drop, length-take-le, take_at}
+use Rattle.std.proofs.Common.{◌≡◌, ℕ, ◌+◌, List, ◌++◌, length, take, drop, sym, ap, ◌∙◌, append_assoc, arith}
+use Rattle.std.proofs.lemmas.List.{drop_at, drop-drop, length-append, take_at}
 use Rattle.output.specs.Columns.{column}
 use Rattle.output.proofs.ColumnSteps.{length_column}
-
--- a column that was written into a part of a text
-pub put_between : (text : List ℕ) (at width n : ℕ) (part : List ℕ) → at + width ≤ length text → part ≡ column (length (take ((at + width) - at) (drop at text))) n → put_mid at ((at + width) - at) text part ≡ take at text ++ (column width n ++ drop (at + width) text)
-put_between text at width n part h e =
-    let wide : (at + width) - at ≡ width = omega arith in
-    let left = length-drop at text in
-    let long : length (take width (drop at text)) ≡ width = length-take-le width (drop at text) (omega arith) in
-    let same : part ≡ column width n =
-    e ∙ ap (λ (w : ℕ). column (length (take w (drop at text))) n) wide ∙ ap (λ (w : ℕ). column w n) long in
-    ap (λ (w : ℕ). take at text ++ (part ++ drop w (drop at text))) wide
-    ∙ ap (λ ys. take at text ++ (ys ++ drop width (drop at text))) same
-    ∙ ap (λ ys. take at text ++ (column width n ++ ys)) (drop-drop width at text)
 
 -- the next column, behind what is done
 pub next_column : (start done before after : List ℕ) (at width n : ℕ) → before ≡ done ++ drop at start → length done ≡ at → after ≡ take at before ++ (column width n ++ drop (at + width) before) → after ≡ (done ++ column width n) ++ drop (at + width) start

@@ -7,19 +7,15 @@ pub fn write_column(out: &mut [u8], number: u64)
     ensures value { out.new ≡ column (length out.old) number }
     ensures read_back { 0 < length out.old → number < 10 ^ length out.old → read_column out.new ≡ Some number }
 {
-    if out.len() == 0 {
-        return;
-    }
-    let mut k = out.len() - 1;
-    out[k] = b'0' + (number % 10) as u8;
-    let mut rest = number / 10;
-    while k > 0 {
-        k -= 1;
-        out[k] = if rest == 0 {
+    // By hand, since `write!` keeps the high digits too. The low ones come first, so the column is turned round at the end.
+    let mut rest = number;
+    for (written, place) in out.iter_mut().enumerate() {
+        *place = if rest == 0 && written > 0 {
             b' '
         } else {
             b'0' + (rest % 10) as u8
         };
         rest /= 10;
     }
+    out.reverse();
 }

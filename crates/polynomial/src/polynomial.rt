@@ -1,6 +1,5 @@
 // Polynomials as coefficient lists: degree, value, derivative, and a cursor over roots.
 ghost use Rattle.std.specs.Prelude.{◌≡◌, map, length};
-ghost use Rattle.algebra.specs.Field.{multiple as times};
 ghost use Rattle.algebra.specs.Poly.{eval};
 ghost use Rattle.fieldvec.specs.Faults.{asked, count, written};
 ghost use Rattle.polynomial.specs.Lists as spec;
@@ -8,6 +7,7 @@ ghost use Rattle.polynomial.specs.Roots.{coming, Seeks, Passes, Stepped};
 ghost use Rattle.std.specs.List.{slice_get as item};
 
 use crate::roots::Roots;
+use field::arithmetic::multiple;
 use field::field::{ExtensionField, Field};
 use field::powers::multiplicative_order;
 use fieldvec::fault::{ListFault, admit};
@@ -78,23 +78,6 @@ pub fn evaluate_lifted<E: ExtensionField>(list: &[E::BaseField], x: E) -> Result
 {
     not_empty(list)?;
     Ok(horner(list, x, |entry| E::lift(entry)))
-}
-
-// n times x, by doubling.
-fn multiple<F: Field>(x: F, n: usize) -> F
-    ensures { result ≡ times F.field x n }
-{
-    let mut sum = F::zero();
-    let mut doubled = x;
-    let mut left = n;
-    while left > 0 {
-        if left % 2 == 1 {
-            sum = sum.add(doubled);
-        }
-        doubled = doubled.add(doubled);
-        left /= 2;
-    }
-    sum
 }
 
 /// The formal derivative: as many entries as the degree; it answers how many.

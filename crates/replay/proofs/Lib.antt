@@ -1,3 +1,1 @@
-pub mod Commas
-pub mod Parts
-pub mod Readings
+pub mod WithCommas

@@ -1,8 +1,19 @@
 -- Elements of a field as text, each by its number: what is written, and what a text reads as. Assumes nothing.
-use Rattle.std.specs.Prelude.{◌≡◌, ℕ, ◌<◌, cond, List, [], ◌∷◌, ◌++◌, map, decimal, ◌==◌}
+use Rattle.std.specs.Prelude.{◌≡◌, ℕ, ◌<◌, cond, List, [], ◌∷◌, ◌++◌, map, decimal, ◌==◌, Option, Some}
+use Rattle.std.specs.Fmt.{◌++?◌}
 use Rattle.std.specs.Str.Parse.{IsNumeral, without_leading_plus, digits_value}
-use Rattle.std.specs.List.{AllByRecursion}
+use Rattle.std.specs.List.{AllByRecursion, slice_split}
 use Rattle.algebra.specs.Field.{Numbers}
+
+-- what items print, a comma before each; none where an item does not say what it prints
+abbrev pub commas_before : {A : Type 0} → (A → Option (List ℕ)) → List A → Option (List ℕ)
+commas_before output [] = Some []
+commas_before output (x ∷ xs) = (Some (44 ∷ []) ++? output x) ++? commas_before output xs
+
+-- what items print, with commas between, a minus for none
+abbrev pub with_commas : {A : Type 0} → (A → Option (List ℕ)) → List A → Option (List ℕ)
+with_commas output [] = Some (45 ∷ [])
+with_commas output (x ∷ xs) = output x ++? commas_before output xs
 
 -- numbers in decimal, a comma before each
 abbrev pub after_commas : List ℕ → List ℕ
@@ -26,15 +37,9 @@ Readable N text = IsNumeral 10 (without_leading_plus text) × (number_in text < 
 abbrev pub element_in : {A : Type 0} → Numbers A → List ℕ → A
 element_in N text = N.element (number_in text)
 
--- one more byte before the first part
-abbrev pub onto : ℕ → List (List ℕ) → List (List ℕ)
-onto c [] = (c ∷ []) ∷ []
-onto c (part ∷ parts) = (c ∷ part) ∷ parts
-
 -- the parts of a text between its commas
 abbrev pub between_commas : List ℕ → List (List ℕ)
-between_commas [] = [] ∷ []
-between_commas (c ∷ text) = cond (c == 44) ([] ∷ between_commas text) (onto c (between_commas text))
+between_commas text = slice_split (λ b. b == 44) text
 
 -- the texts of the elements in a list's text: none in a single minus
 abbrev pub entries : List ℕ → List (List ℕ)

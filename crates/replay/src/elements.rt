@@ -1,28 +1,40 @@
 // Elements of a field as recorded answers have them: each by its number, and lists with commas between.
-ghost use Rattle.std.specs.Prelude.{◌≡◌, map, IfOk, string_bytes, decimal};
+ghost use Rattle.std.specs.Prelude.{◌≡◌, Some, map, IfOk, string_bytes, decimal};
 ghost use Rattle.replay.specs.Elements.{element_in, listed, Readable, ReadAs};
 ghost use Rattle.std.specs.Result.{OkIff};
 
-use anyhow::anyhow;
+use crate::commas::WithCommas;
+use anyhow::Context;
 use field::field::Field;
 use std::alloc::Global;
+use std::fmt;
+use std::fmt::Display;
+
+/// An element, printed by its number.
+#[derive(Clone, Copy)]
+pub struct ByNumber<F>(pub F);
+
+impl<F: Field> Display for ByNumber<F> {
+    ghost output = { λ it. Some (decimal (F.numbers.number it.0)) };
+
+    fn fmt<W: fmt::Write>(&self, f: &mut fmt::Formatter<W>) -> fmt::Result {
+        let number = self.0.to_number();
+        write!(f, "{number}")
+    }
+}
 
 /// The element whose number the text is, refused where it is no number below the field's size.
 pub fn read_element<F: Field>(text: &str) -> anyhow::Result<F>
     ensures { OkIff result (Readable F.numbers text.now) (element_in F.numbers text.now) }
 {
-    match F::from_number(text.parse::<u16>()?) {
-        Some(element) => Ok(element),
-        None => Err(anyhow!("a number above the field's")),
-    }
+    F::from_number(text.parse::<u16>()?).context("a number above the field's")
 }
 
 /// The element's number, where memory suffices.
 pub fn write_element<F: Field>(heap: Global, element: F) -> anyhow::Result<String>
     ensures { IfOk result (λ text. string_bytes text ≡ decimal (F.numbers.number element)) }
 {
-    let number = element.to_number();
-    Ok(format!(in heap; "{number}")?)
+    Ok(ByNumber(element).to_string(heap)?)
 }
 
 /// The elements between commas. A single - is the empty list.
@@ -43,13 +55,9 @@ pub fn read_elements<F: Field>(heap: Global, text: &str) -> anyhow::Result<Vec<F
 pub fn write_elements<F: Field>(heap: Global, elements: &[F]) -> anyhow::Result<String>
     ensures { IfOk result (λ text. string_bytes text ≡ listed (map F.numbers.number elements.now)) }
 {
-    let Some((first, rest)) = elements.split_first() else {
-        return Ok(String::from_str(heap, "-")?);
-    };
-    let mut text = write_element(heap, *first)?;
-    for element in rest {
-        text.push_str(",")?;
-        text.push_str(write_element(heap, *element)?.as_str())?;
-    }
-    Ok(text)
+    let numbers: Vec<u16> = elements
+        .iter()
+        .map(|element| element.to_number())
+        .collect(heap)?;
+    Ok(WithCommas(numbers.as_slice()).to_string(heap)?)
 }

@@ -6,18 +6,21 @@
 // from the row's end.
 #![tactic(auto)]
 
-use anyhow::anyhow;
+use anyhow::{Context, anyhow};
 use book::code_fault::CodeFault;
 use book::record::Record;
 use checksum::checksum::Checksum;
 use codes::bech32::Bech32;
 use codes::finish::Finish;
-use field::fault::Refusal;
 use field::field::Field;
 use mending::mending::{settle, solve};
-use replay::lines::{Answers, replay};
+use replay::commas::WithCommas;
+use replay::lines::replay;
+use replay::outcomes::write_outcome;
 use slip::slip::Slip;
 use std::alloc::Global;
+use std::fmt;
+use std::fmt::Display;
 
 // What is lent: no code asks for more.
 const RECORDS: usize = 16;
@@ -29,11 +32,45 @@ const NO_RECORD: Record = Record {
     change: 0,
 };
 
+// What a solve or a settle lists: the first of the records that were lent, and how many of these change something.
+#[derive(Clone, Copy)]
+struct Listing<'a> {
+    lent: &'a [Record],
+    written: usize,
+    nonzero: usize,
+}
+
+impl Display for Listing<'_> {
+    fn fmt<W: fmt::Write>(&self, f: &mut fmt::Formatter<W>) -> fmt::Result {
+        for record in self.lent.iter().take(self.written) {
+            write!(f, "{}:{} ", record.place, record.change)?;
+        }
+        write!(f, "n={} z={}", self.written, self.nonzero)
+    }
+}
+
+// The same as the original lists it, on a row of so many symbols.
+#[derive(Clone, Copy)]
+struct ByPosition<'a> {
+    listing: Listing<'a>,
+    symbols: usize,
+}
+
+impl Display for ByPosition<'_> {
+    fn fmt<W: fmt::Write>(&self, f: &mut fmt::Formatter<W>) -> fmt::Result {
+        write!(f, "some")?;
+        for record in self.listing.lent.iter().take(self.listing.written) {
+            let position = self.symbols.saturating_sub(record.place).saturating_sub(1);
+            write!(f, " {position}:{}", record.change)?;
+        }
+        Ok(())
+    }
+}
+
 fn write_row(slip: &mut Slip, row: &str) -> anyhow::Result<()> {
     for symbol in row.split(',') {
-        if slip.write(symbol.parse::<u8>()?).is_err() {
-            return Err(anyhow!("a symbol that the slip refuses"));
-        }
+        slip.write(symbol.parse::<u8>()?)
+            .map_err(|_| anyhow!("a symbol that the slip refuses"))?;
     }
     Ok(())
 }
@@ -44,108 +81,60 @@ fn doubt_places(slip: &mut Slip, places: &str) -> anyhow::Result<()> {
         return Ok(());
     }
     for place in places.split(',') {
-        if slip.doubt(place.parse::<usize>()?).is_err() {
-            return Err(anyhow!("a place that the slip refuses"));
-        }
+        slip.doubt(place.parse::<usize>()?)
+            .map_err(|_| anyhow!("a place that the slip refuses"))?;
     }
     Ok(())
 }
 
 fn listed(
-    heap: Global,
-    answer: Result<(usize, usize), CodeFault>,
-    records: &[Record],
-) -> anyhow::Result<String> {
-    match answer {
-        Ok((written, nonzero)) => {
-            let mut text = String::new(heap);
-            for record in records.iter().take(written) {
-                let place = record.place;
-                let change = record.change;
-                text.push_str(format!(in heap; "{place}:{change} ")?.as_str())?;
-            }
-            text.push_str(format!(in heap; "n={written} z={nonzero}")?.as_str())?;
-            Ok(text)
-        }
-        Err(fault) => {
-            let number = Refusal::from(fault).number;
-            Ok(format!(in heap; "refusal {number}")?)
-        }
-    }
-}
-
-// The records as the original lists them, on a row of so many symbols.
-fn by_position(
-    heap: Global,
-    answer: Result<(usize, usize), CodeFault>,
-    records: &[Record],
-    symbols: usize,
-) -> anyhow::Result<String> {
-    let Ok((written, _)) = answer else {
-        return Ok(String::from_str(heap, "none")?);
-    };
-    let mut text = String::from_str(heap, "some")?;
-    for record in records.iter().take(written) {
-        let position = symbols.saturating_sub(record.place).saturating_sub(1);
-        let change = record.change;
-        text.push_str(format!(in heap; " {position}:{change}")?.as_str())?;
-    }
-    Ok(text)
-}
-
-fn written_row(heap: Global, row: &[u8]) -> anyhow::Result<String> {
-    let mut text = String::new(heap);
-    for (i, symbol) in row.iter().enumerate() {
-        if i > 0 {
-            text.push_str(",")?;
-        }
-        text.push_str(format!(in heap; "{symbol}")?.as_str())?;
-    }
-    Ok(text)
+    outcome: Result<(usize, usize), CodeFault>,
+    lent: &[Record],
+) -> Result<Listing<'_>, CodeFault> {
+    let (written, nonzero) = outcome?;
+    Ok(Listing {
+        lent,
+        written,
+        nonzero,
+    })
 }
 
 // The answer of a solve and of a settle, which have to list the same.
 fn answer_by<C: Checksum>(heap: Global, slip: &mut Slip) -> anyhow::Result<String> {
-    let mut work = Vec::new(heap);
-    for _ in 0..WORKING {
-        work.push(C::CorrectionField::zero())?;
-    }
+    let mut work = vec![in heap; C::CorrectionField::zero(); WORKING]?;
     let mut records = [NO_RECORD; RECORDS];
-    let solved = solve::<C>(slip, &mut records, work.as_mut_slice());
-    let list = listed(heap, solved, &records)?;
-    let original = by_position(heap, solved, &records, slip.len())?;
+    let outcome = solve::<C>(slip, &mut records, work.as_mut_slice());
+    let solved = listed(outcome, &records);
+    let list = write_outcome(heap, solved)?;
+    let symbols = slip.len();
+    let original = match solved {
+        Ok(listing) => ByPosition { listing, symbols }.to_string(heap)?,
+        Err(_) => String::from_str(heap, "none")?,
+    };
     let settled = settle::<C>(slip, &mut records, work.as_mut_slice());
-    if listed(heap, settled, &records)?.as_str() != list.as_str() {
+    if write_outcome(heap, listed(settled, &records))?.as_str() != list.as_str() {
         return Err(anyhow!("a settle that lists otherwise than a solve"));
     }
     let row = match settled {
-        Ok(_) => written_row(heap, slip.symbols())?,
+        Ok(_) => WithCommas(slip.symbols()).to_string(heap)?,
         Err(_) => String::from_str(heap, "-")?,
     };
     Ok(format!(in heap; "{list} | {row} | {original}")?)
 }
 
-enum Corrections {}
-
-impl Answers for Corrections {
-    fn answer(heap: Global, command: &str) -> anyhow::Result<String> {
-        let Some((code, rest)) = command.split_once(' ') else {
-            return Err(anyhow!("a command without a row"));
-        };
-        let Some((row, places)) = rest.split_once(' ') else {
-            return Err(anyhow!("a command without places"));
-        };
-        let mut slip = Slip::new();
-        write_row(&mut slip, row)?;
-        doubt_places(&mut slip, places)?;
-        match code {
-            "finish" => answer_by::<Finish>(heap, &mut slip),
-            "sheet" => answer_by::<Bech32>(heap, &mut slip),
-            _ => Err(anyhow!("an unknown code")),
-        }
+fn answer(heap: Global, command: &str) -> anyhow::Result<String> {
+    let (code, rest) = command.split_once(' ').context("a command without a row")?;
+    let (row, places) = rest.split_once(' ').context("a command without places")?;
+    let mut slip = Slip::new();
+    write_row(&mut slip, row)?;
+    doubt_places(&mut slip, places)?;
+    match code {
+        "finish" => answer_by::<Finish>(heap, &mut slip),
+        "sheet" => answer_by::<Bech32>(heap, &mut slip),
+        _ => Err(anyhow!("an unknown code")),
     }
 }
 
 fn main(rt: HostRuntime) -> anyhow::Result<()> {
-    replay::<Corrections>(&rt)
+    replay(&rt, answer)
 }

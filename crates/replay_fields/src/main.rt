@@ -7,36 +7,17 @@
 // A refusal is written by its number.
 #![tactic(auto)]
 
-use anyhow::anyhow;
+use anyhow::{Context, anyhow};
 use field::arithmetic::{difference, muli, quotient};
-use field::fault::{FieldFault, Refusal};
 use field::field::{ExtensionField, Field};
 use field::powers::{multiplicative_order, powi};
 use gf32::gf32::Fe32;
 use gf32_ext::fe1024::Fe1024;
 use gf32768::fe32768::Fe32768;
-use replay::elements::{read_element, write_element};
-use replay::lines::{Answers, replay};
+use replay::elements::{ByNumber, read_element, write_element};
+use replay::lines::replay;
+use replay::outcomes::write_outcome;
 use std::alloc::Global;
-
-fn write_refusal(heap: Global, fault: FieldFault) -> anyhow::Result<String> {
-    let number = Refusal::from(fault).number;
-    Ok(format!(in heap; "refusal {number}")?)
-}
-
-fn write_outcome<F: Field>(heap: Global, outcome: Result<F, FieldFault>) -> anyhow::Result<String> {
-    match outcome {
-        Ok(element) => write_element(heap, element),
-        Err(fault) => write_refusal(heap, fault),
-    }
-}
-
-fn write_order(heap: Global, outcome: Result<usize, FieldFault>) -> anyhow::Result<String> {
-    match outcome {
-        Ok(order) => Ok(format!(in heap; "{order}")?),
-        Err(fault) => write_refusal(heap, fault),
-    }
-}
 
 fn write_dropped(heap: Global, dropped: Option<Fe32>) -> anyhow::Result<String> {
     match dropped {
@@ -56,8 +37,8 @@ fn answer_of_one<E: ExtensionField<BaseField = Fe32>>(
     let element: E = read_element(argument)?;
     match operation {
         "neg" => write_element(heap, element.neg()),
-        "inv" => write_outcome(heap, element.multiplicative_inverse()),
-        "order" => write_order(heap, multiplicative_order(element)),
+        "inv" => write_outcome(heap, element.multiplicative_inverse().map(ByNumber)),
+        "order" => write_outcome(heap, multiplicative_order(element)),
         "drop" => write_dropped(heap, element.drop_to_base()),
         _ => Err(anyhow!("an unknown operation of one argument")),
     }
@@ -73,8 +54,11 @@ fn answer_of_two<F: Field>(
         "add" => write_element(heap, element.add(read_element(argument)?)),
         "sub" => write_element(heap, difference(element, read_element(argument)?)),
         "mul" => write_element(heap, element.mul(read_element(argument)?)),
-        "div" => write_outcome(heap, quotient(element, read_element(argument)?)),
-        "powi" => write_outcome(heap, powi(element, argument.parse::<i64>()?)),
+        "div" => write_outcome(
+            heap,
+            quotient(element, read_element(argument)?).map(ByNumber),
+        ),
+        "powi" => write_outcome(heap, powi(element, argument.parse::<i64>()?).map(ByNumber)),
         "muli" => write_element(heap, muli(element, argument.parse::<i64>()?)),
         _ => Err(anyhow!("an unknown operation of two arguments")),
     }
@@ -91,28 +75,24 @@ fn answer_in<E: ExtensionField<BaseField = Fe32>>(
     }
 }
 
-enum Fields {}
-
-impl Answers for Fields {
-    fn answer(heap: Global, command: &str) -> anyhow::Result<String> {
-        let Some(("F", rest)) = command.split_once(' ') else {
-            return Err(anyhow!("a command that does not begin with F"));
-        };
-        let Some((size, rest)) = rest.split_once(' ') else {
-            return Err(anyhow!("a command without an operation"));
-        };
-        let Some((operation, arguments)) = rest.split_once(' ') else {
-            return Err(anyhow!("a command without an argument"));
-        };
-        match size {
-            "32" => answer_in::<Fe32>(heap, operation, arguments),
-            "1024" => answer_in::<Fe1024>(heap, operation, arguments),
-            "32768" => answer_in::<Fe32768>(heap, operation, arguments),
-            _ => Err(anyhow!("an unknown field")),
-        }
+fn answer(heap: Global, command: &str) -> anyhow::Result<String> {
+    let rest = command
+        .strip_prefix("F ")
+        .context("a command that does not begin with F")?;
+    let (size, rest) = rest
+        .split_once(' ')
+        .context("a command without an operation")?;
+    let (operation, arguments) = rest
+        .split_once(' ')
+        .context("a command without an argument")?;
+    match size {
+        "32" => answer_in::<Fe32>(heap, operation, arguments),
+        "1024" => answer_in::<Fe1024>(heap, operation, arguments),
+        "32768" => answer_in::<Fe32768>(heap, operation, arguments),
+        _ => Err(anyhow!("an unknown field")),
     }
 }
 
 fn main(rt: HostRuntime) -> anyhow::Result<()> {
-    replay::<Fields>(&rt)
+    replay(&rt, answer)
 }

@@ -1,15 +1,16 @@
 // The operations on coefficient lists.
-use crate::lent::zeros;
-use crate::outcomes::{write_front, write_number, write_refusal, write_value};
-use anyhow::anyhow;
+use crate::outcomes::write_front;
+use anyhow::{Context, anyhow};
 use field::field::Field;
 use polynomial::polynomial::{degree, evaluate, find_nonzero_distinct_roots, formal_derivative};
 use products::products::{convolution, mul_mod_x_d};
-use replay::elements::{read_element, read_elements};
+use replay::commas::WithCommas;
+use replay::elements::{ByNumber, read_element, read_elements};
+use replay::outcomes::{write_outcome, write_refusal};
 use std::alloc::Global;
 
 fn derivative<F: Field>(heap: Global, list: &[F]) -> anyhow::Result<String> {
-    let mut lent = zeros(heap, list.len())?;
+    let mut lent = vec![in heap; F::zero(); list.len()]?;
     let outcome = formal_derivative(list, lent.as_mut_slice());
     write_front(heap, outcome, lent.as_slice())
 }
@@ -22,13 +23,13 @@ fn product<F: Field>(heap: Global, cut: &str, a: &[F], b: &[F]) -> anyhow::Resul
     } else {
         cut.parse::<usize>()?
     };
-    let mut lent = zeros(heap, room)?;
+    let mut lent = vec![in heap; F::zero(); room]?;
     let outcome = mul_mod_x_d(a, b, d, lent.as_mut_slice());
     write_front(heap, outcome, lent.as_slice())
 }
 
 fn convolved<F: Field>(heap: Global, a: &[F], s: &[F]) -> anyhow::Result<String> {
-    let mut lent = zeros(heap, s.len().max(1))?;
+    let mut lent = vec![in heap; F::zero(); s.len().max(1)]?;
     let outcome = convolution(a, s, lent.as_mut_slice());
     write_front(heap, outcome, lent.as_slice())
 }
@@ -39,26 +40,20 @@ fn roots<F: Field>(heap: Global, list: &[F], base: F) -> anyhow::Result<String> 
         Ok(cursor) => cursor,
         Err(fault) => return write_refusal(heap, fault),
     };
-    let mut text = String::new(heap);
+    let mut indices: Vec<usize> = Vec::new(heap);
     for _ in 0..F::order() {
         match cursor.next(list) {
-            Ok(Some(index)) => {
-                let comma = if text.is_empty() { "" } else { "," };
-                text.push_str(format!(in heap; "{comma}{index}")?.as_str())?;
-            }
+            Ok(Some(index)) => indices.push(index)?,
             Ok(None) => break,
             Err(fault) => return write_refusal(heap, fault),
         }
     }
-    if text.is_empty() {
-        text.push_str("-")?;
-    }
-    Ok(text)
+    Ok(WithCommas(indices.as_slice()).to_string(heap)?)
 }
 
 fn answer_of_one<F: Field>(heap: Global, operation: &str, list: &[F]) -> anyhow::Result<String> {
     match operation {
-        "degree" => write_number(heap, degree(list)),
+        "degree" => write_outcome(heap, degree(list)),
         "deriv" => derivative(heap, list),
         _ => Err(anyhow!("an unknown operation of one argument")),
     }
@@ -71,7 +66,7 @@ fn answer_of_two<F: Field>(
     argument: &str,
 ) -> anyhow::Result<String> {
     match operation {
-        "eval" => write_value(heap, evaluate(list, read_element(argument)?)),
+        "eval" => write_outcome(heap, evaluate(list, read_element(argument)?).map(ByNumber)),
         "conv" => convolved(heap, list, read_elements(heap, argument)?.as_slice()),
         "roots" => roots(heap, list, read_element(argument)?),
         _ => Err(anyhow!("an unknown operation of two arguments")),
@@ -79,12 +74,10 @@ fn answer_of_two<F: Field>(
 }
 
 fn answer_product<F: Field>(heap: Global, arguments: &str) -> anyhow::Result<String> {
-    let Some((cut, lists)) = arguments.split_once(' ') else {
-        return Err(anyhow!("a product without lists"));
-    };
-    let Some((a, b)) = lists.split_once(' ') else {
-        return Err(anyhow!("a product of one list"));
-    };
+    let (cut, lists) = arguments
+        .split_once(' ')
+        .context("a product without lists")?;
+    let (a, b) = lists.split_once(' ').context("a product of one list")?;
     let a: Vec<F> = read_elements(heap, a)?;
     let b: Vec<F> = read_elements(heap, b)?;
     product(heap, cut, a.as_slice(), b.as_slice())
@@ -92,9 +85,9 @@ fn answer_product<F: Field>(heap: Global, arguments: &str) -> anyhow::Result<Str
 
 /// Answers an operation and its arguments.
 pub fn answer_list<F: Field>(heap: Global, command: &str) -> anyhow::Result<String> {
-    let Some((operation, arguments)) = command.split_once(' ') else {
-        return Err(anyhow!("an operation without arguments"));
-    };
+    let (operation, arguments) = command
+        .split_once(' ')
+        .context("an operation without arguments")?;
     if operation == "mulmod" {
         return answer_product::<F>(heap, arguments);
     }

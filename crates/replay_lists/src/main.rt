@@ -9,19 +9,18 @@
 //     R SIZE S               the connection list of the shortest register that generates the terms S
 #![tactic(auto)]
 
-mod lent;
 mod lists;
 mod outcomes;
 mod registers;
 
-use anyhow::anyhow;
+use anyhow::{Context, anyhow};
 use field::field::Field;
 use gf32::gf32::Fe32;
 use gf32_ext::fe1024::Fe1024;
 use gf32768::fe32768::Fe32768;
 use lists::answer_list;
 use registers::answer_register;
-use replay::lines::{Answers, replay};
+use replay::lines::replay;
 use std::alloc::Global;
 
 fn answer_in<F: Field>(heap: Global, letter: &str, command: &str) -> anyhow::Result<String> {
@@ -32,25 +31,21 @@ fn answer_in<F: Field>(heap: Global, letter: &str, command: &str) -> anyhow::Res
     }
 }
 
-enum ListsAndRegisters {}
-
-impl Answers for ListsAndRegisters {
-    fn answer(heap: Global, command: &str) -> anyhow::Result<String> {
-        let Some((letter, rest)) = command.split_once(' ') else {
-            return Err(anyhow!("a command without a field"));
-        };
-        let Some((size, rest)) = rest.split_once(' ') else {
-            return Err(anyhow!("a command without an argument"));
-        };
-        match size {
-            "32" => answer_in::<Fe32>(heap, letter, rest),
-            "1024" => answer_in::<Fe1024>(heap, letter, rest),
-            "32768" => answer_in::<Fe32768>(heap, letter, rest),
-            _ => Err(anyhow!("an unknown field")),
-        }
+fn answer(heap: Global, command: &str) -> anyhow::Result<String> {
+    let (letter, rest) = command
+        .split_once(' ')
+        .context("a command without a field")?;
+    let (size, rest) = rest
+        .split_once(' ')
+        .context("a command without an argument")?;
+    match size {
+        "32" => answer_in::<Fe32>(heap, letter, rest),
+        "1024" => answer_in::<Fe1024>(heap, letter, rest),
+        "32768" => answer_in::<Fe32768>(heap, letter, rest),
+        _ => Err(anyhow!("an unknown field")),
     }
 }
 
 fn main(rt: HostRuntime) -> anyhow::Result<()> {
-    replay::<ListsAndRegisters>(&rt)
+    replay(&rt, answer)
 }

@@ -3,14 +3,14 @@
 //     S CODE ROW    the check symbols that seal the row, in order
 #![tactic(auto)]
 
-use anyhow::anyhow;
+use anyhow::{Context, anyhow};
 use checksum::checksum::Checksum;
 use checksum::engine::{Engine, seal};
 use codes::bech32::Bech32;
 use codes::finish::Finish;
 use gf32::gf32::Fe32;
 use replay::elements::{read_elements, write_elements};
-use replay::lines::{Answers, replay};
+use replay::lines::replay;
 use std::alloc::Global;
 
 fn answer_by<C: Checksum<SymbolField = Fe32>>(
@@ -25,25 +25,17 @@ fn answer_by<C: Checksum<SymbolField = Fe32>>(
     }
 }
 
-enum Rows {}
-
-impl Answers for Rows {
-    fn answer(heap: Global, command: &str) -> anyhow::Result<String> {
-        let Some((letter, rest)) = command.split_once(' ') else {
-            return Err(anyhow!("a command without a code"));
-        };
-        let Some((code, row)) = rest.split_once(' ') else {
-            return Err(anyhow!("a command without a row"));
-        };
-        let row = read_elements(heap, row)?;
-        match code {
-            "finish" => answer_by::<Finish>(heap, letter, row.as_slice()),
-            "sheet" => answer_by::<Bech32>(heap, letter, row.as_slice()),
-            _ => Err(anyhow!("an unknown code")),
-        }
+fn answer(heap: Global, command: &str) -> anyhow::Result<String> {
+    let (letter, rest) = command.split_once(' ').context("a command without a code")?;
+    let (code, row) = rest.split_once(' ').context("a command without a row")?;
+    let row = read_elements(heap, row)?;
+    match code {
+        "finish" => answer_by::<Finish>(heap, letter, row.as_slice()),
+        "sheet" => answer_by::<Bech32>(heap, letter, row.as_slice()),
+        _ => Err(anyhow!("an unknown code")),
     }
 }
 
 fn main(rt: HostRuntime) -> anyhow::Result<()> {
-    replay::<Rows>(&rt)
+    replay(&rt, answer)
 }

@@ -7,6 +7,7 @@ use field::fault::Refusal;
 use sheet::sealed::seal_line;
 use std::io;
 use std::io::{Read, Write};
+use typed::lines::Lines;
 
 /// What is read at most.
 const INPUT_BYTES: u64 = 65_536;
@@ -26,17 +27,9 @@ fn write_sealed(out: &mut impl Write, line: &[u8]) -> io::Result<()> {
     }
 }
 
-// A newline ends a line, and so does the last byte.
 fn seal_lines(out: &mut impl Write, input: &[u8]) -> io::Result<()> {
-    let mut start = 0;
-    for (i, byte) in input.iter().enumerate() {
-        if *byte == b'\n' {
-            write_sealed(out, &input[start..i])?;
-            start = i + 1;
-        }
-    }
-    if start < input.len() {
-        write_sealed(out, &input[start..])?;
+    for line in Lines::new(input) {
+        write_sealed(out, line)?;
     }
     Ok(())
 }

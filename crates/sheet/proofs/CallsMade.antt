@@ -1,5 +1,5 @@
 -- A line that is taken makes the calls that it stands for.
-use Rattle.std.proofs.Common.{◌≡◌, ℕ, ◌+◌, Bool, true, false, cond, eqb, List, [], ◌∷◌, ◌++◌, Ok, Err, Result, sym, refl, ap, ◌∙◌, append_assoc, arith}
+use Rattle.std.proofs.Common.{◌≡◌, ℕ, ◌+◌, Bool, true, false, cond, eqb, List, [], ◌∷◌, ◌++◌, Some, None, Ok, Err, Option, Result, sym, refl, ap, ◌∙◌, append_assoc, arith}
 use Rattle.std.specs.List.{flat_map}
 use Rattle.std.proofs.lemmas.List.{flat_map_more}
 use Rattle.std.proofs.lemmas.Bool.{eqb-true}
@@ -16,7 +16,7 @@ use Rattle.sheet.specs.Calls.{Call, wipe, write, blank, made_all, call_of, calls
 use Rattle.sheet.specs.Characters.{character_of}
 use Rattle.sheet.specs.Taking.{before_slash, is_other, line_case, at_byte, and_then, entered, taken_all, take_line}
 use Rattle.sheet.specs.declared.characters.Character.{Character}
-use Rattle.sheet.specs.declared.characters.Character.TheVariants.{Symbol, QuestionMark, Outside}
+use Rattle.sheet.specs.declared.characters.Character.TheVariants.{Symbol, QuestionMark}
 use Rattle.sheet.specs.declared.characters.Case.{Case}
 use Rattle.sheet.specs.declared.fault.LineFault.{LineFault}
 use Rattle.sheet.specs.declared.fault.LineFault.TheVariants.{OtherCase}
@@ -26,10 +26,10 @@ never : {X : Type 0} (fault : LineFault) (b : Book) → ◌≡◌ {A = Result Bo
 never fault b e = let z : ◌≡◌ {A = ℕ} 0 1 = cc in absurd (omega arith)
 
 -- a space says nothing
-space_outside : (byte : ℕ) → eqb byte 32 ≡ true → character_of byte ≡ Outside
+space_outside : (byte : ℕ) → eqb byte 32 ≡ true → character_of byte ≡ None
 space_outside byte s = ap character_of (eqb-true byte 32 s)
 
-no_call : (said : Character) → said ≡ Outside → call_of said ≡ []
+no_call : (said : Option Character) → said ≡ None → call_of said ≡ []
 no_call said e = ap call_of e
 
 -- the calls of a line's pieces are those of the bytes before its slash
@@ -67,11 +67,11 @@ module _ (case : Case) (place byte : ℕ) (bytes : List ℕ) (b last : Book)
   write_made true called e = never _ last e
   write_made false called e = call_made called e
 
-  byte_made : (space : Bool) (says : Character) → eqb byte 32 ≡ space → character_of byte ≡ says → and_then (cond space (Ok b) (entered true case place byte says b)) (taken_all true case (place + 1) bytes) ≡ Ok last → made_all (call_of says ++ calls_of_bytes bytes) b ≡ Ok last
+  byte_made : (space : Bool) (says : Option Character) → eqb byte 32 ≡ space → character_of byte ≡ says → and_then (cond space (Ok b) (entered true case place byte says b)) (taken_all true case (place + 1) bytes) ≡ Ok last → made_all (call_of says ++ calls_of_bytes bytes) b ≡ Ok last
   byte_made true says s is e = ap (λ calls. made_all (calls ++ calls_of_bytes bytes) b) (no_call says (sym is ∙ space_outside byte s)) ∙ rest b e
-  byte_made false (Symbol v) s is e = write_made (is_other case byte) (book.write v b) e
-  byte_made false QuestionMark s is e = call_made (book.blank b) e
-  byte_made false Outside s is e = never _ last e
+  byte_made false (Some (Symbol v)) s is e = write_made (is_other case byte) (book.write v b) e
+  byte_made false (Some QuestionMark) s is e = call_made (book.blank b) e
+  byte_made false None s is e = never _ last e
 
 bytes_made : (case : Case) (place : ℕ) (bytes : List ℕ) (b last : Book) → taken_all true case place bytes b ≡ Ok last → made_all (calls_of_bytes bytes) b ≡ Ok last
 bytes_made case place [] b last e = cc

@@ -1,19 +1,16 @@
 -- A book of eight symbols is sealed by the finish code: it is within the limit, and four symbols are added.
-use Rattle.std.proofs.Common.{◌≡◌, ℕ, eqb, List, [], ◌∷◌, ◌++◌, map, length, Ok, Result, sym, refl, ap, ◌∙◌, arith}
-use Rattle.std.proofs.lemmas.List.{length-append, length-map, map-append}
-use Rattle.std.proofs.lemmas.Bool.{cond-true, eq-eqb}
+use Rattle.std.proofs.Common.{◌≡◌, ℕ, List, ◌++◌, map, length, Ok, refl, ap, ◌∙◌, arith}
+use Rattle.std.proofs.lemmas.List.{length-append, length-map}
 use Rattle.algebra.specs.Code as code
 use Rattle.algebra.specs.Code.{checks}
 use Rattle.algebra.proofs.Sealing.{length_seal}
 use Rattle.codes.specs.Finish.{finish}
 use Rattle.gf32.specs.Gf32.{gf32, gf32_numbers}
 use Rattle.book.specs.Book.{Book, after, row, sure}
+use Rattle.book.proofs.Rows.{row_append, row_sure}
 use Rattle.slip.specs.Sealing.{check_symbols, elements, seal}
 use Rattle.slip.proofs.Sealing.{seal_held}
-use Rattle.sheet.specs.Groups.{in_groups}
-use Rattle.sheet.specs.Sealed.{sealed_row, text_of}
-use Rattle.sheet.specs.declared.characters.Case.{Case}
-use Rattle.sheet.specs.declared.fault.LineFault.{LineFault}
+use Rattle.sheet.specs.Sealed.{sealed_row}
 
 four_checks : checks finish ≡ 4
 unfolding finish
@@ -27,10 +24,6 @@ target_length : length finish.target ≡ checks finish
 unfolding finish
 target_length = refl
 
-row_sure : (symbols : List ℕ) → row (map sure symbols) ≡ symbols
-row_sure [] = refl
-row_sure (v ∷ symbols) = ap (λ (vs : List ℕ). v ∷ vs) (row_sure symbols)
-
 module _ (b : Book) (eight : length b ≡ 8) where
   pub eight_held : seal gf32_numbers gf32 finish b ≡ Ok (b ++ map sure (check_symbols gf32_numbers gf32 finish (row b)))
   eight_held = seal_held gf32_numbers gf32 finish b (omega arith) (omega (arith, four_checks, limit_31))
@@ -38,7 +31,7 @@ module _ (b : Book) (eight : length b ≡ 8) where
   pub eight_sealed : (next : Book) (symbols : List ℕ) → next ≡ after b (seal gf32_numbers gf32 finish b) → symbols ≡ row next → symbols ≡ sealed_row (row b)
   eight_sealed next symbols e s =
       let more = check_symbols gf32_numbers gf32 finish (row b) in
-      s ∙ ap row (e ∙ ap (after b) eight_held) ∙ map-append (λ p. p.symbol) b (map sure more) ∙ ap (λ ys. row b ++ ys) (row_sure more)
+      s ∙ ap row (e ∙ ap (after b) eight_held) ∙ row_append b (map sure more) ∙ ap (λ ys. row b ++ ys) (row_sure more)
 
   pub twelve_sealed : length (sealed_row (row b)) ≡ 12
   twelve_sealed =
@@ -47,6 +40,3 @@ module _ (b : Book) (eight : length b ≡ 8) where
       let m = length-map cs gf32_numbers.number in
       let n = length_seal gf32 finish target_length (elements gf32_numbers (row b)) in
       length-append (row b) (check_symbols gf32_numbers gf32 finish (row b)) ∙ omega (arith, four_checks)
-
-pub eight_text : (case : Case) (taken : Result Book LineFault) (b : Book) (text : List ℕ) → taken ≡ Ok b → length b ≡ 8 → text ≡ in_groups case (sealed_row (row b)) → Ok text ≡ text_of case taken
-eight_text case taken b text e h t = ap Ok t ∙ sym (ap (text_of case) e ∙ cond-true (eqb (length b) 8) _ _ (eq-eqb (length b) 8 h))

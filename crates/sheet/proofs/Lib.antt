@@ -1,7 +1,5 @@
 pub mod BytesTaken
 pub mod CallsMade
 pub mod EightSealed
-pub mod Listed
 pub mod Placing
 pub mod ReadBack
-pub mod Twelve

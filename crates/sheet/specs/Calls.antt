@@ -1,5 +1,5 @@
 -- The calls on a slip that a typed line stands for. Assumes nothing.
-use Rattle.std.specs.Prelude.{ℕ, List, [], ◌∷◌, Ok, Result}
+use Rattle.std.specs.Prelude.{ℕ, List, [], ◌∷◌, Some, None, Ok, Option, Result}
 use Rattle.std.specs.List.{flat_map}
 use Rattle.book.specs.Book as book
 use Rattle.book.specs.Book.{Book, fresh}
@@ -8,7 +8,7 @@ use Rattle.typed.specs.Pieces.{Part, group, remark, pieces}
 use Rattle.sheet.specs.Characters.{character_of}
 use Rattle.sheet.specs.Taking.{and_then}
 use Rattle.sheet.specs.declared.characters.Character.{Character}
-use Rattle.sheet.specs.declared.characters.Character.TheVariants.{Symbol, QuestionMark, Outside}
+use Rattle.sheet.specs.declared.characters.Character.TheVariants.{Symbol, QuestionMark}
 
 pub data Call : Type 0 where
   wipe : Call
@@ -27,10 +27,10 @@ made_all [] b = Ok b
 made_all (call ∷ calls) b = and_then (made call b) (made_all calls)
 
 -- the call that a character stands for
-abbrev pub call_of : Character → List Call
-call_of (Symbol v) = write v ∷ []
-call_of QuestionMark = blank ∷ []
-call_of Outside = []
+abbrev pub call_of : Option Character → List Call
+call_of (Some (Symbol v)) = write v ∷ []
+call_of (Some QuestionMark) = blank ∷ []
+call_of None = []
 
 abbrev pub calls_of_bytes : List ℕ → List Call
 calls_of_bytes bytes = flat_map (λ byte. call_of (character_of byte)) bytes

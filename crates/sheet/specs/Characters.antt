@@ -2,7 +2,7 @@
 use Rattle.std.specs.Prelude.{ℕ, ◌+◌, cond, List, [], ◌∷◌, Some, None, codes, Option, ◌==◌, nat_lt, slice_index}
 use Rattle.std.specs.Char.{to_ascii_lowercase, to_ascii_uppercase, is_ascii_lowercase, is_ascii_uppercase}
 use Rattle.sheet.specs.declared.characters.Character.{Character}
-use Rattle.sheet.specs.declared.characters.Character.TheVariants.{Symbol, QuestionMark, Outside}
+use Rattle.sheet.specs.declared.characters.Character.TheVariants.{Symbol, QuestionMark}
 use Rattle.sheet.specs.declared.characters.Case.{Case}
 use Rattle.sheet.specs.declared.characters.Case.TheVariants.{Lower, Upper}
 
@@ -20,13 +20,13 @@ in_case Lower byte = byte
 in_case Upper byte = to_ascii_uppercase byte
 
 -- the symbol of a character, by its place in a list whose first one stands for `n`
-abbrev pub symbol_from : ℕ → List ℕ → ℕ → Character
-symbol_from n [] byte = Outside
-symbol_from n (c ∷ cs) byte = cond (byte == c) (Symbol n) (symbol_from (n + 1) cs byte)
+abbrev pub symbol_from : ℕ → List ℕ → ℕ → Option Character
+symbol_from n [] byte = None
+symbol_from n (c ∷ cs) byte = cond (byte == c) (Some (Symbol n)) (symbol_from (n + 1) cs byte)
 
 -- what a byte says: a question mark is a case of its own, a letter says the same in either case
-abbrev pub character_of : ℕ → Character
-character_of byte = cond (byte == 63) QuestionMark (symbol_from 0 alphabet (to_ascii_lowercase byte))
+abbrev pub character_of : ℕ → Option Character
+character_of byte = cond (byte == 63) (Some QuestionMark) (symbol_from 0 alphabet (to_ascii_lowercase byte))
 
 -- how a symbol is written, none from 32 on
 abbrev pub written : Case → ℕ → Option ℕ

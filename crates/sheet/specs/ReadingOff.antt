@@ -1,12 +1,11 @@
 -- What twelve symbols say: a sail number, and the tenths of a second since midnight. Assumes nothing.
-use Rattle.std.specs.Prelude.{ℕ, ◌+◌, ◌*◌, ◌/◌, cond, List, [], ◌∷◌, length, take, drop, Ok, Err, Result, ◌==◌, nat_le}
+use Rattle.std.specs.Prelude.{ℕ, ◌+◌, ◌*◌, ◌/◌, cond, List, length, take, drop, fold, Ok, Err, Result, ◌==◌, nat_le}
 use Rattle.sheet.specs.declared.fault.LineFault.{LineFault}
 use Rattle.sheet.specs.declared.fault.LineFault.TheVariants.{SymbolCount, LateTime}
 
 -- the number of digits in base 32, highest first, after those of n
 abbrev pub digits_after : ℕ → List ℕ → ℕ
-digits_after n [] = n
-digits_after n (digit ∷ digits) = digits_after (n * 32 + digit) digits
+digits_after n digits = fold (λ number digit. number * 32 + digit) n digits
 
 -- a day has 864,000 tenths of a second
 abbrev pub within_day : ℕ → ℕ → Result (ℕ × ℕ) LineFault

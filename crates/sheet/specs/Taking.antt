@@ -3,14 +3,14 @@
 --   line_case      the case of a line
 --   taken          one byte of that part: the book after it, or why the line is refused there
 --   take_line      a whole line, on a fresh book
-use Rattle.std.specs.Prelude.{ℕ, ◌+◌, Bool, cond, List, [], ◌∷◌, Ok, Err, Result, ◌==◌}
+use Rattle.std.specs.Prelude.{ℕ, ◌+◌, Bool, cond, List, [], ◌∷◌, Some, None, Ok, Err, Option, Result, ◌==◌}
 use Rattle.std.specs.Option.{unwrap_or}
 use Rattle.std.specs.Char.{is_ascii_lowercase, is_ascii_uppercase}
 use Rattle.book.specs.Book.{Book, fresh, write, blank}
 use Rattle.book.specs.declared.slip_fault.SlipFault.{SlipFault}
 use Rattle.sheet.specs.Characters.{case_of, character_of}
 use Rattle.sheet.specs.declared.characters.Character.{Character}
-use Rattle.sheet.specs.declared.characters.Character.TheVariants.{Symbol, QuestionMark, Outside}
+use Rattle.sheet.specs.declared.characters.Character.TheVariants.{Symbol, QuestionMark}
 use Rattle.sheet.specs.declared.characters.Case.{Case}
 use Rattle.sheet.specs.declared.characters.Case.TheVariants.{Lower, Upper}
 use Rattle.sheet.specs.declared.fault.LineFault.{LineFault}
@@ -37,10 +37,10 @@ at_byte place (Err fault) = Err (OnSlip fault place)
 
 -- a byte by what it says: it has to be of the set, then of the line's case, and then there has to be room;
 -- a question mark is a blank, or outside the set where no blanks are allowed
-abbrev pub entered : Bool → Case → ℕ → ℕ → Character → Book → Result Book LineFault
-entered blanks case place byte (Symbol v) b = cond (is_other case byte) (Err (OtherCase place)) (at_byte place (write v b))
-entered blanks case place byte QuestionMark b = cond blanks (at_byte place (blank b)) (Err (OutsideSet place))
-entered blanks case place byte Outside b = Err (OutsideSet place)
+abbrev pub entered : Bool → Case → ℕ → ℕ → Option Character → Book → Result Book LineFault
+entered blanks case place byte (Some (Symbol v)) b = cond (is_other case byte) (Err (OtherCase place)) (at_byte place (write v b))
+entered blanks case place byte (Some QuestionMark) b = cond blanks (at_byte place (blank b)) (Err (OutsideSet place))
+entered blanks case place byte None b = Err (OutsideSet place)
 
 -- a space does nothing
 abbrev pub taken : Bool → Case → ℕ → ℕ → Book → Result Book LineFault

@@ -1,6 +1,6 @@
 // What a mended row says: who finished, and when.
-ghost use Rattle.std.specs.Prelude.{◌≡◌, ◌+◌, ◌*◌};
-ghost use Rattle.sheet.specs.ReadingOff.{read_off, whole_seconds};
+ghost use Rattle.std.specs.Prelude.{◌≡◌, ◌≤◌, length};
+ghost use Rattle.sheet.specs.ReadingOff.{digits_after, read_off, whole_seconds};
 
 use crate::fault::LineFault;
 
@@ -14,8 +14,8 @@ pub fn read_off(symbols: &[u8]) -> Result<(u32, u32), LineFault>
     if symbols.len() != 12 {
         return Err(LineFault::SymbolCount);
     }
-    let sail = base_32(symbols[0], symbols[1], symbols[2], symbols[3]);
-    let tenths = base_32(symbols[4], symbols[5], symbols[6], symbols[7]);
+    let sail = base_32(&symbols[..4]);
+    let tenths = base_32(&symbols[4..8]);
     if tenths > LAST_TENTH {
         return Err(LineFault::LateTime);
     }
@@ -29,9 +29,12 @@ pub fn whole_seconds(tenths: u32) -> u32
     tenths / 10
 }
 
-// A number of four digits, the highest first.
-fn base_32(a: u8, b: u8, c: u8, d: u8) -> u32
-    ensures { result ≡ ((a * 32 + b) * 32 + c) * 32 + d }
+// The number that digits say, the highest first.
+fn base_32(digits: &[u8]) -> u32
+    requires { length digits.now ≤ 4 }
+    ensures { result ≡ digits_after 0 digits.now }
 {
-    ((u32::from(a) * 32 + u32::from(b)) * 32 + u32::from(c)) * 32 + u32::from(d)
+    digits
+        .iter()
+        .fold(0, |number, digit| number * 32 + u32::from(*digit))
 }

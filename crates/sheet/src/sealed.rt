@@ -33,7 +33,5 @@ fn sealed_row(slip: &mut Slip) -> [u8; 12]
     ensures { result ≡ sealed_row (row slip.old) }
 {
     slip.seal::<Finish>().unwrap();
-    let mut sealed = [0; 12];
-    sealed.copy_from_slice(slip.symbols());
-    sealed
+    slip.symbols().try_into().unwrap()
 }

@@ -2,14 +2,13 @@
 ghost use Rattle.std.specs.Prelude.{◌≡◌, true, false, [], ◌∷◌, Ok, Err};
 ghost use Rattle.sheet.specs.BookCalls.{all_done};
 ghost use Rattle.sheet.specs.Calls.{calls_of, made_all};
-ghost use Rattle.sheet.specs.Taking.{at_byte, before_slash, is_other, line_case, outcome, taken, taken_all, take_line};
+ghost use Rattle.sheet.specs.Taking.{before_slash, is_other, line_case, outcome, taken, taken_all, take_line};
 ghost use Rattle.book.specs.Book.{after, answer, fresh};
 ghost use Rattle.book.specs.Calls.{done, wipe};
 ghost use Rattle.book.specs.Story.{Leads};
 
 use crate::characters::{Case, Character, letter_case, read_character};
 use crate::fault::LineFault;
-use book::slip_fault::SlipFault;
 use slip::slip::Slip;
 
 /// Takes a typed line onto a slip: wipes it, then writes each character of the line's groups, a question mark as a blank. The
@@ -32,44 +31,38 @@ pub fn take_known_line(slip: &mut Slip, line: &[u8]) -> Result<(), LineFault>
     take(slip, line, false)
 }
 
+// Whether a line may hold blanks is a bool, as in the clauses: the two functions above give each choice its name.
 fn take(slip: &mut Slip, line: &[u8], blanks: bool) -> Result<(), LineFault>
     ensures answer { result ≡ answer (take_line blanks line.now) }
     ensures book { slip.new ≡ after fresh (take_line blanks line.now) }
 {
     slip.wipe();
     let groups = before_slash(line);
-    let case = line_case(groups);
-    match take_groups(slip, groups, case, blanks) {
-        Ok(()) => Ok(()),
-        Err(fault) => {
-            slip.wipe();
-            Err(fault)
-        }
+    let taken = take_groups(slip, groups, line_case(groups), blanks);
+    if taken.is_err() {
+        slip.wipe();
     }
+    taken
 }
 
 // The part of a line that holds its groups.
 pub(crate) fn before_slash(line: &[u8]) -> &[u8]
     ensures { result.now ≡ before_slash line.now }
 {
-    for (i, byte) in line.iter().enumerate() {
-        if *byte == b'/' {
-            return &line[0..i];
-        }
-    }
-    line
+    let end = line
+        .iter()
+        .position(|byte| *byte == b'/')
+        .unwrap_or(line.len());
+    &line[..end]
 }
 
 // The case of the first letter, small where there is none.
 pub(crate) fn line_case(line: &[u8]) -> Case
     ensures { result ≡ line_case line.now }
 {
-    for byte in line {
-        if let Some(case) = letter_case(*byte) {
-            return case;
-        }
-    }
-    Case::Lower
+    line.iter()
+        .find_map(|byte| letter_case(*byte))
+        .unwrap_or(Case::Lower)
 }
 
 fn take_groups(slip: &mut Slip, groups: &[u8], case: Case, blanks: bool) -> Result<(), LineFault>
@@ -94,38 +87,20 @@ fn take_byte(
     if byte == b' ' {
         return Ok(());
     }
-    match read_character(byte) {
-        Character::Symbol(symbol) => {
-            if is_other_case(byte, case) {
-                return Err(LineFault::OtherCase(place));
-            }
-            at_byte(slip.write(symbol), place)
-        }
-        Character::QuestionMark => {
-            if !blanks {
-                return Err(LineFault::OutsideSet(place));
-            }
-            at_byte(slip.blank(), place)
-        }
-        Character::Outside => Err(LineFault::OutsideSet(place)),
+    match read_character(byte).ok_or(LineFault::OutsideSet(place))? {
+        Character::Symbol(_) if is_other_case(byte, case) => Err(LineFault::OtherCase(place)),
+        Character::Symbol(symbol) => slip
+            .write(symbol)
+            .map_err(|fault| LineFault::OnSlip(fault, place)),
+        Character::QuestionMark if blanks => slip
+            .blank()
+            .map_err(|fault| LineFault::OnSlip(fault, place)),
+        Character::QuestionMark => Err(LineFault::OutsideSet(place)),
     }
 }
 
 fn is_other_case(byte: u8, case: Case) -> bool
     ensures { result ≡ is_other case byte }
 {
-    match letter_case(byte) {
-        Some(own) => own != case,
-        None => false,
-    }
-}
-
-// What the slip answers to a byte: a refusal is the line's, at that byte.
-fn at_byte(answered: Result<(), SlipFault>, place: usize) -> Result<(), LineFault>
-    ensures { result ≡ at_byte place answered }
-{
-    match answered {
-        Ok(()) => Ok(()),
-        Err(fault) => Err(LineFault::OnSlip(fault, place)),
-    }
+    letter_case(byte).is_some_and(|own| own != case)
 }

@@ -1,5 +1,5 @@
 -- What stands at the front of a line is its first piece, and what follows has the others.
-use Rattle.std.proofs.Common.{◌≡◌, ℕ, Bool, true, false, eqb, List, [], ◌∷◌, ◌++◌, length, get_or, take, drop, sym, refl, ap, ◌∙◌, append_assoc, append-nil, arith}
+use Rattle.std.proofs.Common.{◌≡◌, ℕ, Bool, true, false, eqb, List, [], ◌∷◌, ◌++◌, length, take, drop, sym, refl, ap, ◌∙◌, subst, append_assoc, append-nil, arith}
 use Rattle.std.proofs.lemmas.Bool.{both_ways, eqb-true, eq-eqb, ne_eqb, or_from}
 use Rattle.std.proofs.lemmas.List.{nil_from_length}
 use Rattle.typed.specs.Pieces.{Part, group, remark, closed, pieces, pieces_after, spaces, ends_group, group_length}
@@ -48,20 +48,18 @@ no_space_behind [] first others e = let z : ◌≡◌ {A = ℕ} 0 1 = cc in absu
 no_space_behind (byte ∷ bytes) first others e = no_space_one byte bytes (eqb byte 32) first others refl (no_space_behind bytes first others) e
 
 -- the first piece, by what stands behind the spaces at the front
-pub no_piece : (line rest : List ℕ) → rest ≡ drop (spaces line) line → length rest ≡ 0 → pieces line ≡ []
-no_piece line rest e h = pieces_past_spaces line ∙ ap pieces (sym e ∙ nil_from_length rest h)
+module _ (line rest : List ℕ) (behind : rest ≡ drop (spaces line) line) where
+  pub no_piece : length rest ≡ 0 → pieces line ≡ []
+  no_piece none = pieces_past_spaces line ∙ ap pieces (sym behind ∙ nil_from_length rest none)
 
-behind_a_slash : (line : List ℕ) → (length line ≡ 0 → ⊥) → get_or line 0 0 ≡ 47 → pieces line ≡ remark (drop 1 line) ∷ []
-behind_a_slash [] h e = absurd (h refl)
-behind_a_slash (byte ∷ bytes) h e = let s = eq-eqb byte 47 e in simp s
+  module _ (first : ℕ) (others : List ℕ) (begins : rest ≡ first ∷ others) where
+    first_piece : pieces line ≡ pieces (first ∷ others)
+    first_piece = pieces_past_spaces line ∙ ap pieces (sym behind ∙ begins)
 
-pub a_remark : (line rest : List ℕ) → rest ≡ drop (spaces line) line → (length rest ≡ 0 → ⊥) → get_or rest 0 0 ≡ 47 → pieces line ≡ remark (drop 1 rest) ∷ []
-a_remark line rest e h s = pieces_past_spaces line ∙ ap pieces (sym e) ∙ behind_a_slash rest h s
+    pub a_remark : first ≡ 47 → pieces line ≡ remark others ∷ []
+    a_remark slash = let s = eq-eqb first 47 slash in first_piece ∙ simp s
 
-a_group_from : (line rest : List ℕ) → rest ≡ drop (spaces line) line → (length rest ≡ 0 → ⊥) → (get_or rest 0 0 ≡ 47 → ⊥) → pieces rest ≡ group (take (group_length rest) rest) ∷ pieces (drop (group_length rest) rest)
-a_group_from line [] e h s = absurd (h refl)
-a_group_from line (byte ∷ bytes) e h s =
-    first_group byte bytes (or_from (eqb byte 32) (eqb byte 47) (no_space_behind line byte bytes (sym e)) (ne_eqb byte 47 s))
-
-pub a_group : (line rest : List ℕ) → rest ≡ drop (spaces line) line → (length rest ≡ 0 → ⊥) → (get_or rest 0 0 ≡ 47 → ⊥) → pieces line ≡ group (take (group_length rest) rest) ∷ pieces (drop (group_length rest) rest)
-a_group line rest e h s = pieces_past_spaces line ∙ ap pieces (sym e) ∙ a_group_from line rest e h s
+    pub a_group : (first ≡ 47 → ⊥) → pieces line ≡ group (take (group_length rest) rest) ∷ pieces (drop (group_length rest) rest)
+    a_group no_slash =
+        let no_end = or_from (eqb first 32) (eqb first 47) (no_space_behind line first others (sym behind ∙ begins)) (ne_eqb first 47 no_slash) in
+        subst (λ (bytes : List ℕ). pieces line ≡ group (take (group_length bytes) bytes) ∷ pieces (drop (group_length bytes) bytes)) (sym begins) (first_piece ∙ first_group first others no_end)

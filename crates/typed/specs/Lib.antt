@@ -1,2 +1,3 @@
 pub mod Cursors
+pub mod Lines
 pub mod Pieces

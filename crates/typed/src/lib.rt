@@ -1,4 +1,5 @@
-// A typed line, cut into its pieces.
+// What is typed: a sheet, cut into its lines, and a line, cut into its pieces.
 #![tactic(auto)]
 
+pub mod lines;
 pub mod pieces;

@@ -1,7 +1,6 @@
 // The pieces of a typed line: its groups of characters, and the remark behind the first slash.
-ghost use Rattle.std.specs.Prelude.{◌≡◌, ◌≤◌, length, drop};
-ghost use Rattle.std.specs.List.{slice_get as item};
-ghost use Rattle.std.specs.Option.{option_map};
+ghost use Rattle.std.specs.Prelude.{◌≡◌, ◌≤◌, length};
+ghost use Rattle.std.specs.Iterator.{YieldsFirstBy, item_count};
 ghost use Rattle.typed.specs.Pieces.{group_length, pieces, spaces};
 ghost use Rattle.typed.specs.Cursors.{bytes_of, coming};
 
@@ -26,26 +25,25 @@ impl<'a> Pieces<'a> {
     {
         Pieces { rest: line }
     }
+}
 
-    /// The next piece, none past the last.
-    pub fn next(&mut self) -> Option<Piece<'a>>
-        ensures answer { option_map bytes_of result ≡ item (coming self.old) 0 }
-        ensures rest { coming self.new ≡ drop 1 (coming self.old) }
-    {
-        let rest = self.rest;
-        let start = leading_spaces(rest);
-        let rest = &rest[start..];
-        if rest.is_empty() {
-            self.rest = rest;
-            return None;
+impl<'a> Iterator for Pieces<'a> {
+    type Item = Piece<'a>;
+
+    ghost next_gives = { YieldsFirstBy bytes_of coming };
+
+    ghost remaining = { item_count coming };
+
+    fn next(&mut self) -> Option<Piece<'a>> {
+        let line = &self.rest[leading_spaces(self.rest)..];
+        let (first, behind) = line.split_first()?;
+        if *first == b'/' {
+            self.rest = &[];
+            return Some(Piece::Remark(behind));
         }
-        if rest[0] == b'/' {
-            self.rest = &rest[rest.len()..];
-            return Some(Piece::Remark(&rest[1..]));
-        }
-        let end = leading_group(rest);
-        self.rest = &rest[end..];
-        Some(Piece::Group(&rest[0..end]))
+        let (group, rest) = line.split_at(leading_group(line));
+        self.rest = rest;
+        Some(Piece::Group(group))
     }
 }
 
@@ -54,12 +52,10 @@ fn leading_spaces(bytes: &[u8]) -> usize
     ensures value { result ≡ spaces bytes.now }
     ensures bound { result ≤ length bytes.now }
 {
-    for (i, byte) in bytes.iter().enumerate() {
-        if *byte != b' ' {
-            return i;
-        }
-    }
-    bytes.len()
+    bytes
+        .iter()
+        .position(|byte| *byte != b' ')
+        .unwrap_or(bytes.len())
 }
 
 // How many bytes stand at the front that are neither a space nor a slash.
@@ -67,10 +63,8 @@ fn leading_group(bytes: &[u8]) -> usize
     ensures value { result ≡ group_length bytes.now }
     ensures bound { result ≤ length bytes.now }
 {
-    for (i, byte) in bytes.iter().enumerate() {
-        if *byte == b' ' || *byte == b'/' {
-            return i;
-        }
-    }
-    bytes.len()
+    bytes
+        .iter()
+        .position(|byte| *byte == b' ' || *byte == b'/')
+        .unwrap_or(bytes.len())
 }

@@ -13,6 +13,7 @@ const ORDER: usize = 31;
 
 static ORDER_FACTORS: [usize; 2] = [1, 31];
 
+#[tactic(auto, unfolding(crate::specs::Gf32::gf32, crate::specs::Gf32::gf32_numbers), using(crate::specs::Gf32::fe_path))]
 impl Field for Fe32 {
     ghost field = { gf32 };
 
@@ -34,14 +35,17 @@ impl Field for Fe32 {
         Fe32::ONE
     }
 
+    #[tactic(auto, unfolding(crate::specs::Gf32::gf32_units), using(crate::specs::Gf32::fe_path))]
     fn generator() -> Fe32 {
         Fe32 { value: 2 }
     }
 
+    #[tactic(auto, unfolding(crate::specs::Gf32::gf32_units))]
     fn order() -> usize {
         ORDER
     }
 
+    #[tactic(auto, unfolding(crate::specs::Gf32::gf32_units))]
     fn order_factors<'a>() -> &'a [usize] {
         &ORDER_FACTORS
     }
@@ -75,6 +79,7 @@ impl Field for Fe32 {
     }
 
     fn from_number(number: u16) -> Option<Fe32> {
+        // Not by `then`, whose closure would need a clause of its own for the bound of an element's number.
         if number < 32 {
             Some(Fe32 {
                 value: number as u8,

@@ -13,6 +13,7 @@ const ORDER: usize = 32767;
 
 static ORDER_FACTORS: [usize; 8] = [1, 7, 31, 151, 217, 1057, 4681, 32767];
 
+#[tactic(auto, unfolding(crate::specs::Gf32768::gf32768_numbers, crate::specs::Gf32768::gf32768_units, gf32::specs::Gf32::gf32_numbers))]
 impl Field for Fe32768 {
     ghost field = { gf32768 };
 
@@ -50,6 +51,7 @@ impl Field for Fe32768 {
         &ORDER_FACTORS
     }
 
+    #[tactic(auto, unfolding(crate::specs::Gf32768::gf32768, algebra::proofs::Carried::carried, algebra::proofs::Cubic::cubic))]
     fn add(self, other: Fe32768) -> Fe32768 {
         Fe32768 {
             c0: self.c0.add(other.c0),
@@ -59,6 +61,7 @@ impl Field for Fe32768 {
     }
 
     // ζ³ goes to the first two parts, ζ⁴ to the last two.
+    #[tactic(auto, unfolding(crate::specs::Gf32768::gf32768, algebra::proofs::Carried::carried, algebra::proofs::Cubic::cubic))]
     fn mul(self, other: Fe32768) -> Fe32768 {
         let linear = self.c0.mul(other.c1).add(self.c1.mul(other.c0));
         let square = self.c0.mul(other.c2).add(self.c1.mul(other.c1));
@@ -71,6 +74,7 @@ impl Field for Fe32768 {
         }
     }
 
+    #[tactic(auto, unfolding(crate::specs::Gf32768::gf32768, algebra::proofs::Carried::carried, algebra::proofs::Cubic::cubic))]
     fn neg(self) -> Fe32768 {
         Fe32768 {
             c0: self.c0.neg(),
@@ -127,12 +131,9 @@ impl ExtensionField for Fe32768 {
     }
 
     fn drop_to_base(self) -> Option<Fe32> {
-        if self.c1 == Fe32::ZERO && self.c2 == Fe32::ZERO {
-            Some(self.c0)
-        } else {
-            None
-        }
+        (self == Fe32768::lift(self.c0)).then_some(self.c0)
     }
 
+    #[tactic(auto, using(crate::specs::Laws32768::lift32768_lifts))]
     fn lift_laws() {}
 }

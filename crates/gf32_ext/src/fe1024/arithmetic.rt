@@ -13,6 +13,7 @@ const ORDER: usize = 1023;
 
 static ORDER_FACTORS: [usize; 8] = [1, 3, 11, 31, 33, 93, 341, 1023];
 
+#[tactic(auto, unfolding(crate::specs::Gf1024::gf1024_numbers, crate::specs::Gf1024::gf1024_units, gf32::specs::Gf32::gf32_numbers))]
 impl Field for Fe1024 {
     ghost field = { gf1024 };
 
@@ -49,6 +50,7 @@ impl Field for Fe1024 {
         &ORDER_FACTORS
     }
 
+    #[tactic(auto, unfolding(crate::specs::Gf1024::gf1024, algebra::proofs::Carried::carried, algebra::proofs::Quadratic::quadratic))]
     fn add(self, other: Fe1024) -> Fe1024 {
         Fe1024 {
             c0: self.c0.add(other.c0),
@@ -65,6 +67,7 @@ impl Field for Fe1024 {
         }
     }
 
+    #[tactic(auto, unfolding(crate::specs::Gf1024::gf1024, algebra::proofs::Carried::carried, algebra::proofs::Quadratic::quadratic))]
     fn neg(self) -> Fe1024 {
         Fe1024 {
             c0: self.c0.neg(),
@@ -109,12 +112,9 @@ impl ExtensionField for Fe1024 {
     }
 
     fn drop_to_base(self) -> Option<Fe32> {
-        if self.c1 == Fe32::ZERO {
-            Some(self.c0)
-        } else {
-            None
-        }
+        (self == Fe1024::lift(self.c0)).then_some(self.c0)
     }
 
+    #[tactic(auto, using(crate::specs::Laws1024::lift1024_lifts))]
     fn lift_laws() {}
 }

@@ -1,5 +1,5 @@
 // Sealing a slip's row by a code.
-ghost use Rattle.std.specs.Prelude.{◌≡◌, ℕ, ◌+◌, ◌<◌, ◌≤◌, ◌++◌, map, length, Ok, slice_index};
+ghost use Rattle.std.specs.Prelude.{◌≡◌, ◌+◌, ◌≤◌, ◌++◌, map, length, Ok};
 ghost use Rattle.algebra.specs.Code.{checks, residue, Sound};
 ghost use Rattle.book.specs.Book.{answer, after, row, sure};
 ghost use Rattle.slip.specs.Sealing.{check_symbols, elements, seal};
@@ -14,6 +14,7 @@ use field::field::Field;
 
 impl Slip {
     /// Seal: appends the k check symbols, undoubted, that make the row sound by the code.
+    #[tactic(auto, using(crate::proofs::Memory::steps))]
     pub fn seal<C: Checksum>(&mut self) -> Result<(), CodeFault>
         ensures answer { result ≡ answer (seal C.SymbolField.Field.numbers C.SymbolField.Field.field C.Checksum.code self.old) }
         ensures book { self.new ≡ after self.old (seal C.SymbolField.Field.numbers C.SymbolField.Field.field C.Checksum.code self.old) }
@@ -32,6 +33,7 @@ impl Slip {
     }
 
     /// The code's engine after the slip's row.
+    #[tactic(auto, using(crate::proofs::Sealing::residue_steps))]
     pub fn engine<C: Checksum>(&self) -> Engine<C>
         ensures { result ≡ residue C.SymbolField.Field.field C.Checksum.code (elements C.SymbolField.Field.numbers (row self.now)) }
     {

@@ -1,10 +1,9 @@
 use Rattle.std.proofs.Common.{length, drop}
 use Rattle.algebra.specs.Rows.{positions}
-use Rattle.correction.specs.Forney.{Valued}
-use Rattle.book.specs.Patterns.{held}
+use Rattle.correction.specs.Changes.{ChangeAt}
 use Rattle.correction.proofs.Onward.{Onward}
 use Rattle.correction.proofs.listing.list_erasures.Given as goal
 
 abbrev pub invariant-loop-place : goal.invariant-loop-place
-invariant-loop-place g l = Onward (Valued g.E.Field.field g.E.ExtensionField.lifted g.E.BaseField.Field.numbers l.evaluator l.derivative l.a l.first)
-    (length l.marks) (positions l.marks) (held l.initial.pattern) (positions (drop l.place l.marks)) (held l.pattern)
+invariant-loop-place g l =
+    Onward (ChangeAt l.forney) (length l.marks) (positions l.marks) l.initial.pattern (positions (drop l.place l.marks)) l.pattern

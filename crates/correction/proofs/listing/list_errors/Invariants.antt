@@ -1,18 +1,18 @@
 use Rattle.std.proofs.Common.{map, length}
 use Rattle.algebra.specs.Decode.{root_position}
 use Rattle.algebra.specs.Field.{HasOrder}
-use Rattle.correction.specs.Forney.{Valued}
+use Rattle.correction.specs.Changes.{ChangeAt}
 use Rattle.correction.specs.Listing.{OnRow}
-use Rattle.book.specs.Patterns.{held}
 use Rattle.correction.proofs.Onward.{Onward}
 use Rattle.polynomial.specs.Roots.{coming, roots}
 use Rattle.correction.proofs.listing.list_errors.Given as goal
 
 abbrev pub invariant-loop-index : goal.invariant-loop-index
-invariant-loop-index g l = let F = g.E.Field.field in
-    HasOrder F l.a l.order
-    × Onward (OnRow l.len (Valued F g.E.ExtensionField.lifted g.E.BaseField.Field.numbers l.evaluator l.derivative l.a l.first))
-    l.len (map (root_position l.order) (roots F l.conn l.a l.order)) (held l.initial.pattern) (map (root_position l.order) (coming F l.conn l.roots)) (held l.pattern)
+invariant-loop-index g l =
+    let F = g.E.Field.field in
+    HasOrder F l.forney.root l.order
+    × Onward (OnRow l.len (ChangeAt l.forney)) l.len (map (root_position l.order) (roots F l.locator l.forney.root l.order))
+    l.initial.pattern (map (root_position l.order) (coming F l.locator l.roots)) l.pattern
 
 abbrev pub decreases-loop-index : goal.decreases-loop-index
-decreases-loop-index g l = length (coming g.E.Field.field l.conn l.roots)
+decreases-loop-index g l = length (coming g.E.Field.field l.locator l.roots)

@@ -1,5 +1,8 @@
+use Rattle.std.specs.Iterator.Adapters.{rev_source}
+use Rattle.std.specs.Slice.Iter.{iter_rest}
 use Rattle.decoding.proofs.Doubted.{Doubted}
 use Rattle.correction.proofs.locating.erasure_locator.Given as goal
 
-abbrev pub invariant-loop-place : goal.invariant-loop-place
-invariant-loop-place g l = Doubted g.F.Field.field l.a l.marks l.place l.len l.power l.initial.list l.list
+abbrev pub invariant-loop-marked : goal.invariant-loop-marked
+invariant-loop-marked g l =
+    Doubted g.F.Field.field l.a l.marks (iter_rest (rev_source l.marked-iterator)) l.len l.power l.initial.list l.list

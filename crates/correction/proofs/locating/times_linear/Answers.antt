@@ -1,22 +1,18 @@
-use Rattle.std.proofs.Common.{ap, ◌∙◌, arith}
-use Rattle.decoding.proofs.Linear.{turned_none, turned_more, turned_all}
+use Rattle.std.proofs.Common.{◌-◌, [], ◌∷◌, length, take, sym, ap, ◌∙◌, arith}
+use Rattle.std.proofs.lemmas.List.{take_at}
+use Rattle.std.proofs.lemmas.Option.{MatchOption-at_some}
+use Rattle.algebra.specs.Series.{lin}
+use Rattle.decoding.proofs.Linear.{turned_more, turned_all}
 use Rattle.correction.proofs.locating.times_linear.Goals as goal
 
-pub loop-i-init : goal.loop-i-init
-loop-i-init g c = turned_none g.F.Field.field c.args.x c.args.len c.args.list.now c.zero-below.result c.zero-below.ensures
-
-pub loop-i-preserved : goal.loop-i-preserved
-loop-i-preserved g c =
-    let F = g.F.Field.field in
-    let l = c.loop-i in
-    let entry = c.index-list-i.result in
-    turned_more F c.args.x c.args.len c.args.list.now (omega arith) l.i l.below l.list l.invariant entry c.difference.result (omega arith)
-    c.index-list-i.is (c.difference.ensures ∙ ap (λ t. F.add entry (F.neg t)) c.mul.ensures)
+pub loop-entry-preserved : goal.loop-entry-preserved
+loop-entry-preserved g c =
+    rw (c.replace-below.ensures.value, c.replace-below.ensures.after)
+    (turned_more c.loop-entry.invariant c.loop-entry-test.true c.entry-item.is c.mul.ensures c.difference-next.ensures)
 
 pub returns : goal.returns
 returns g c =
-    let F = g.F.Field.field in
-    let l = c.loop-i in
-    let zero = c.zero.result in
-    turned_all F c.args.x c.args.len c.args.list.now (omega arith) l.i l.below l.list l.invariant zero c.difference-2.result (omega arith)
-    c.zero.ensures (c.difference-2.ensures ∙ ap (λ t. F.add zero (F.neg t)) c.mul-2.ensures)
+    let below_top = length c.args.list.now - 1 in
+    let parts = MatchOption-at_some _ _ _ c.unwrap.ensures c.split_last_mut.ensures.cases in
+    turned_all c.loop-entry.invariant c.loop-entry-test.false (omega arith) c.zero.ensures c.mul-2.ensures c.difference.ensures
+    ∙ sym (ap (lin g.F.Field.field c.args.x) (ap (take below_top) parts.0 ∙ take_at c.unwrap.result.1.now (c.unwrap.result.0.now ∷ []) below_top (omega arith)))

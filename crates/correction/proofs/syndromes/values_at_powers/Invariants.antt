@@ -4,8 +4,8 @@ use Rattle.algebra.specs.Poly.{eval}
 use Rattle.fieldvec.proofs.Filled.{Filled}
 use Rattle.correction.proofs.syndromes.values_at_powers.Given as goal
 
-abbrev pub invariant-loop-j : goal.invariant-loop-j
-invariant-loop-j g l =
+abbrev pub invariant-loop-value : goal.invariant-loop-value
+invariant-loop-value g l =
     let F = g.E.Field.field in
-    Filled (λ j. eval F (map g.E.ExtensionField.lifted l.list) (pow F l.a (l.first + j))) l.j l.initial.out l.out
-    × (l.power ≡ pow F l.a (l.first + l.j))
+    Filled (λ j. eval F (map g.E.ExtensionField.lifted l.list) (pow F l.a (l.first + j))) l.value-index l.initial.out l.out
+    × (l.power ≡ pow F l.a (l.first + l.value-index))

@@ -1,9 +1,10 @@
-use Rattle.std.proofs.Common.{◌≡◌, vec_items}
-use Rattle.std.specs.Str.Iter.{split_text, split_has_more, split_pattern}
-use Rattle.replay.proofs.Readings.{ReadSoFar}
+use Rattle.std.proofs.Common.{◌≡◌, vec_items, map}
+use Rattle.std.specs.List.{AllByRecursion}
+use Rattle.replay.specs.Elements.{Readable, element_in}
 use Rattle.replay.proofs.elements.read_elements.Given as goal
 
+-- the elements are those of the parts so far
 abbrev pub invariant-loop-part : goal.invariant-loop-part
 invariant-loop-part g l =
-    ReadSoFar g.F.Field.numbers (split_text l.initial.part-iterator) l.yielded (split_has_more l.part-iterator) (split_text l.part-iterator) (vec_items l.elements)
-    × (split_pattern l.part-iterator ≡ 44)
+    let texts = map (λ part. part.now) l.yielded in
+    AllByRecursion (Readable g.F.Field.numbers) texts × (vec_items l.elements ≡ map (element_in g.F.Field.numbers) texts)

@@ -1,15 +1,13 @@
-use Rattle.std.proofs.Common.{◌≡◌, ℕ, ◌-◌, take, ap, ◌∙◌, arith}
-use Rattle.sheet.proofs.BytesTaken.{one_before, at_slash, all_before}
+use Rattle.std.proofs.Common.{ℕ, eqb, length, take, unwrap_or, sym, refl, ap, ◌∙◌, rules, tests}
+use Rattle.std.proofs.lemmas.Iterator.{YieldsList-from_slice}
+use Rattle.std.proofs.lemmas.Iterator.Search.{position_from_yields_List}
+use Rattle.sheet.specs.Taking.{before_slash}
 use Rattle.sheet.proofs.taking.before_slash.Goals as goal
-
-pub loop-i-preserved : goal.loop-i-preserved
-loop-i-preserved c = one_before c.args.line.now c.loop-i.i c.loop-i.invariant c.loop-i-test.true c.if-byte-eq47.false
-
-pub returns-then-byte-eq47 : goal.returns-then-byte-eq47
-returns-then-byte-eq47 c =
-    let i = c.loop-i.i in
-    let same : i - 0 ≡ i = omega arith in
-    ap (λ (k : ℕ). take k c.args.line.now) same ∙ at_slash c.args.line.now i c.loop-i.invariant c.loop-i-test.true c.if-byte-eq47.true
+use Rattle.typed.proofs.Fronts.{is_before_first, place_or_end}
 
 pub returns : goal.returns
-returns c = all_before c.args.line.now c.loop-i.i c.loop-i.invariant c.loop-i-test.false
+returns c =
+    let line = c.args.line.now in
+    let found = position_from_yields_List (λ b. eqb b 47) _ _ _ c.position.ensures.ran (YieldsList-from_slice line cc) (λ x b q k. search (rules, tests)) in
+    let end = c.unwrap_or-end.ensures ∙ ap (λ o. unwrap_or o (length line)) found ∙ place_or_end (λ b. eqb b 47) line in
+    ap (λ (n : ℕ). take n line) end ∙ sym (is_before_first before_slash (λ b. eqb b 47) refl (λ _ _. refl) line)

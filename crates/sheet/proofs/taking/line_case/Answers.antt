@@ -1,21 +1,27 @@
-use Rattle.std.proofs.Common.{◌+◌, drop, unwrap_or, sym, ap, ◌∙◌}
-use Rattle.std.proofs.lemmas.List.{at_drop_more, at_drop_all}
+use Rattle.std.proofs.Common.{◌≡◌, ℕ, ◌<◌, cond, List, length, get_or, MatchOption, Option, Some, None, is_some, unwrap_or, sym, refl, ap, ◌∙◌, rules}
+use Rattle.std.proofs.lemmas.List.Recursion.{found_at, found_nowhere}
+use Rattle.sheet.specs.Characters.{case_of}
 use Rattle.sheet.specs.Taking.{line_case}
+use Rattle.sheet.specs.declared.characters.Case.{Case}
+use Rattle.sheet.specs.declared.characters.Case.TheVariants.{Lower}
 use Rattle.sheet.proofs.taking.line_case.Goals as goal
 
-pub returns-in-Some : goal.returns-in-Some
-returns-in-Some c =
-    let line = c.args.line.now in
-    let i = c.loop-byte.byte-index in
-    let here = ap (λ o. unwrap_or o (line_case (drop (i + 1) line))) (sym c.letter_case.ensures ∙ c.in-Some.is) in
-    sym (sym c.loop-byte.invariant ∙ at_drop_more line_case line i 0 c.loop-byte-test.true ∙ here)
+-- the case of the first letter, none where no byte is one
+abbrev FirstCase : List ℕ → Option Case → Type 0
+FirstCase line first = MatchOption first ((k : ℕ) → k < length line → case_of (get_or line k 0) ≡ None)
+    (λ case. (i : ℕ) × (i < length line) × (case_of (get_or line i 0) ≡ Some case) × ((k : ℕ) → k < i → case_of (get_or line k 0) ≡ None))
 
-pub loop-byte-preserved : goal.loop-byte-preserved
-loop-byte-preserved c =
-    let line = c.args.line.now in
-    let i = c.loop-byte.byte-index in
-    let here = ap (λ o. unwrap_or o (line_case (drop (i + 1) line))) (sym c.letter_case.ensures ∙ c.in_default.is) in
-    sym (sym c.loop-byte.invariant ∙ at_drop_more line_case line i 0 c.loop-byte-test.true ∙ here)
+one_more : (own : Option Case) (rest : Case) → unwrap_or own rest ≡ cond (is_some own) (unwrap_or own Lower) rest
+one_more (Some case) rest = refl
+one_more None rest = refl
+
+first_case : (line : List ℕ) (first : Option Case) → FirstCase line first → unwrap_or first Lower ≡ line_case line
+first_case line None none =
+    sym (found_nowhere line_case (λ byte. is_some (case_of byte)) (λ byte. unwrap_or (case_of byte) Lower) Lower refl (λ byte bytes. one_more (case_of byte) (line_case bytes)) line 0 (λ k h. ap is_some (none k h)))
+first_case line (Some case) (i, h, here, before) =
+    sym (found_at line_case (λ byte. is_some (case_of byte)) (λ byte. unwrap_or (case_of byte) Lower) Lower refl (λ byte bytes. one_more (case_of byte) (line_case bytes)) line i 0 h (λ k b. ap is_some (before k b)) (ap is_some here) ∙ ap (λ own. unwrap_or own Lower) here)
 
 pub returns : goal.returns
-returns c = sym (at_drop_all line_case c.args.line.now c.loop-byte.byte-index c.loop-byte-test.false) ∙ c.loop-byte.invariant
+returns c =
+    let found : FirstCase c.args.line.now c.find_map.result = search rules in
+    c.unwrap_or.ensures ∙ first_case c.args.line.now c.find_map.result found

@@ -1,20 +1,12 @@
-use Rattle.std.proofs.Common.{arith}
-use Rattle.std.proofs.lemmas.List.{at_drop_more, at_drop_all}
-use Rattle.std.proofs.lemmas.Bool.Decides.{nat_tests}
+use Rattle.std.proofs.Common.{◌≡◌, ◌∙◌, sym, refl, rules, tests, arith}
+use Rattle.std.proofs.lemmas.Bool.{eq-eqb, ne_eqb}
+use Rattle.std.proofs.lemmas.Iterator.{IsFirst-from_position, YieldsList-from_slice, index_from_first}
 use Rattle.typed.specs.Pieces.{spaces}
 use Rattle.typed.proofs.pieces.leading_spaces.Goals as goal
 
-pub returns-then-byte-ne32 : goal.returns-then-byte-ne32
-returns-then-byte-ne32 c =
-    let here = at_drop_more spaces c.args.bytes.now c.loop-i.i 0 c.loop-i-test.true in
-    record { value = grind (arith, nat_tests); bound = omega arith }
-
-pub loop-i-preserved : goal.loop-i-preserved
-loop-i-preserved c =
-    let here = at_drop_more spaces c.args.bytes.now c.loop-i.i 0 c.loop-i-test.true in
-    grind (arith, nat_tests)
-
-pub returns : goal.returns
-returns c =
-    let here = at_drop_all spaces c.args.bytes.now c.loop-i.i c.loop-i-test.false in
-    record { value = omega arith; bound = omega arith }
+pub returns-clause-value : goal.returns-clause-value
+returns-clause-value c =
+    let bytes = c.args.bytes.now in
+    let first = IsFirst-from_position _ _ _ (λ b. ¬ (b ≡ 32)) (λ b. b ≡ 32) c.position.ensures.ran (YieldsList-from_slice bytes cc) (λ x q k. search (rules, tests)) (λ x q k. search (rules, tests)) in
+    let counted = index_from_first spaces (λ b. ¬ (b ≡ 32)) (λ b. b ≡ 32) refl (λ x xs h. simp (ne_eqb x 32 h)) (λ x xs h. simp (eq-eqb x 32 h) (omega arith)) bytes _ first in
+    c.unwrap_or.ensures ∙ sym counted

@@ -13,12 +13,3 @@ loop-preserved g c =
     ap (λ r. residue_from F lower r (replicate left F.𝟘)) (c.input_fe.ensures ∙ ap (λ v. modulo F lower (v ∷ before)) c.zero.ensures)
     ∙ ap (λ n. residue_from F lower before (replicate n F.𝟘)) (sym one_less)
     ∙ c.loop.invariant
-
-pub returns : goal.returns
-returns g c =
-    let F = g.C.SymbolField.Field.field in
-    let code = g.C.Checksum.code in
-    let none : 0 ≡ c.checksum_length-end.result - c.loop.counter = omega arith in
-    ap (λ n. residue_from F code.lower c.loop.self (replicate n F.𝟘)) none
-    ∙ c.loop.invariant
-    ∙ ap (λ n. residue_from F code.lower c.args.self.now (replicate n F.𝟘)) c.checksum_length-end.ensures

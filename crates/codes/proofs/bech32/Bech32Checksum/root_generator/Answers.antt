@@ -1,4 +1,4 @@
-use mathlib.Core.Path.{refl, ap₂}
+use Rattle.std.proofs.Common.{refl, ap₂}
 use Rattle.gf32.specs.Gf32.{fe_path}
 use Rattle.gf32_ext.specs.Gf1024.{fe1024}
 use Rattle.codes.specs.Bech32.{sheet}

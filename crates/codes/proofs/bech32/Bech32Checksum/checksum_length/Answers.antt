@@ -1,7 +1,0 @@
-use mathlib.Core.Path.{refl}
-use Rattle.codes.specs.Bech32.{sheet}
-use Rattle.codes.proofs.bech32.Bech32Checksum.checksum_length.Goals as goal
-
-pub returns : goal.returns
-unfolding sheet
-returns c = refl

@@ -1,7 +1,0 @@
-use Rattle.std.proofs.Common.{refl}
-use Rattle.gf32.specs.Gf32.{gf32, fe_path}
-use Rattle.gf32.proofs.gf32.arithmetic.Fe32Field.one.Goals as goal
-
-pub returns : goal.returns
-unfolding gf32
-returns c = fe_path _ _ refl

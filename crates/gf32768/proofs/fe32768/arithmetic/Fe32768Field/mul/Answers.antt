@@ -1,8 +1,0 @@
-use Rattle.algebra.proofs.Cubic.{cubic}
-use Rattle.algebra.proofs.Carried.{carried}
-use Rattle.gf32768.specs.Gf32768.{gf32768, fe32768_path}
-use Rattle.gf32768.proofs.fe32768.arithmetic.Fe32768Field.mul.Goals as goal
-
-pub returns : goal.returns
-unfolding gf32768 carried cubic
-returns c = fe32768_path _ _ (cc) (cc) (cc)

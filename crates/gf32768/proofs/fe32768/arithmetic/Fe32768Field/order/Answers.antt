@@ -1,7 +1,0 @@
-use Rattle.std.proofs.Common.{refl}
-use Rattle.gf32768.specs.Gf32768.{gf32768_units}
-use Rattle.gf32768.proofs.fe32768.arithmetic.Fe32768Field.order.Goals as goal
-
-pub returns : goal.returns
-unfolding gf32768_units
-returns c = refl
