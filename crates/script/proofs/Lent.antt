@@ -1,8 +1,7 @@
 -- A call that is lent at most 16 records and 216 elements to work in answers as one that is lent more. Assumes nothing.
 --   on-desk    a search at the front of a desk
 --   in-part    a search that lists into the front of sixteen records
---   few        it lists no more than it is lent
-use Rattle.std.proofs.Common.{◌≡◌, ℕ, ◌+◌, ◌-◌, ◌*◌, ◌≤◌, min, ltb, List, ◌++◌, length, take, Ok, Err, Option, Result, sym, refl, ap, ◌∙◌, subst, ⊎_elim, arith}
+use Rattle.std.proofs.Common.{◌≡◌, ℕ, ◌+◌, ◌*◌, ◌≤◌, min, ltb, List, ◌++◌, length, take, Ok, Err, Option, Result, sym, refl, ap, ◌∙◌, subst, ⊎_elim, arith}
 use Rattle.std.proofs.lemmas.List.{length-take, take-append-le}
 use Rattle.std.proofs.lemmas.Bool.{lt-ltb, le-ltb, cases_lt}
 use Rattle.book.specs.Book.{Book}
@@ -11,7 +10,6 @@ use Rattle.book.specs.Codes.{Rows}
 use Rattle.book.specs.declared.code_fault.CodeFault.{CodeFault}
 use Rattle.book.specs.declared.record.Record.{Record}
 use Rattle.mending.specs.Answers.{told_list}
-use Rattle.script.specs.Script.{Few}
 
 -- what is asked is at most the cap: lending the cap is lending enough, or too little, alike
 enough : (lent most asked cap : ℕ) → asked ≤ cap → most ≡ min lent cap → ltb lent asked ≡ ltb most asked
@@ -48,10 +46,6 @@ module _ {C : Rows} {r w : ℕ} {b : Book} where
   counted : {cs : List Record} {i j : ℕ} {found : Option (List ℕ)} → Mends C r w b (listed cs i j) found → i ≡ length cs
   counted (one_near e x) = refl
 
-  few_mended : (got : Result (ℕ × ℕ) CodeFault) (xs : List Record) {found : Option (List ℕ)} → length xs ≤ 16 → Mends C r w b (told_list got xs) found → Few got
-  few_mended (Ok (i, j)) xs h m = omega (arith, counted m, length-take i xs)
-  few_mended (Err fault) xs h m = tt
-
   -- what stands past a list makes no difference
   front_mended : (got : Result (ℕ × ℕ) CodeFault) (xs ys : List Record) {found : Option (List ℕ)} → Mends C r w b (told_list got xs) found → told_list got (xs ++ ys) ≡ told_list got xs
   front_mended (Ok (i, j)) xs ys m =
@@ -64,13 +58,6 @@ solve_mends (solves m) = (_, m)
 
 settle_mends : {b : Book} {C : Rows} {r w : ℕ} {a : Answer} {d : Book} → Follows b (settle C r w) a d → (found : Option (List ℕ)) × Mends C r w b a found
 settle_mends (settles m) = (_, m)
-
-module _ {C : Rows} {b d : Book} {r w : ℕ} (got : Result (ℕ × ℕ) CodeFault) (xs : List Record) where
-  pub few_solved : length xs ≤ 16 → Follows b (solve C r w) (told_list got xs) d → Few got
-  few_solved h f = few_mended got xs h (solve_mends f).1
-
-  pub few_settled : length xs ≤ 16 → Follows b (settle C r w) (told_list got xs) d → Few got
-  few_settled h f = few_mended got xs h (settle_mends f).1
 
 module _ (C : Rows) (small : C.bound ≤ 16) (b d : Book) (r w n : ℕ) (sixteen xs ys : List Record) (got : Result (ℕ × ℕ) CodeFault) (a : Answer)
     (q : n ≡ min r 16) (size : length sixteen ≡ 16) (told : a ≡ told_list got (xs ++ ys)) where

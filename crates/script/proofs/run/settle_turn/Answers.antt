@@ -1,9 +1,6 @@
-use Rattle.std.proofs.Common.{refl, rules}
-use Rattle.script.proofs.Lent.{few_settled, settle_in_part}
+use Rattle.std.proofs.Common.{refl}
+use Rattle.script.proofs.Lent.{settle_in_part}
 use Rattle.script.proofs.run.settle_turn.Goals as goal
-
-pub reply-requires : goal.reply-requires
-reply-requires g c = few_settled c.settle-found.result c.settle-found.new.records (search rules) c.settle-found.ensures
 
 pub returns : goal.returns
 returns g c =

@@ -1,9 +1,6 @@
-use Rattle.std.proofs.Common.{refl, rules}
-use Rattle.script.proofs.Lent.{few_solved, solve_in_part}
+use Rattle.std.proofs.Common.{refl}
+use Rattle.script.proofs.Lent.{solve_in_part}
 use Rattle.script.proofs.run.solve_turn.Goals as goal
-
-pub reply-requires : goal.reply-requires
-reply-requires g c = few_solved c.solve-found.result c.solve-found.new.records (search rules) c.solve-found.ensures
 
 pub returns : goal.returns
 returns g c =
