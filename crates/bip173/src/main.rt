@@ -6,15 +6,15 @@
 use anyhow::{Context, anyhow, ensure};
 use checksum::checksum::Checksum;
 use checksum::engine::is_sound;
+use checksum::symbols::element;
 use codes::bech32::Bech32;
-use field::field::Field;
 use gf32::gf32::Fe32;
 use sheet::characters::{Character, read_character};
 use std::alloc::Global;
 use std::io::{BufRead, BufReader};
 
 fn symbol(number: u8) -> anyhow::Result<Fe32> {
-    Fe32::from_number(u16::from(number)).context("a symbol above 31")
+    element::<Bech32>(number).context("a symbol above 31")
 }
 
 // The human-readable part as symbols: the high bits of each character, ZERO, and the low five bits of each, in small letters.

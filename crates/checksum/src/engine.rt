@@ -122,7 +122,8 @@ impl<C: Checksum> Engine<C> {
     }
 }
 
-/// The k check symbols of a row, in the order of writing, in the first k entries.
+/// The k check symbols of a row, in the order of writing, in the first k entries. A type apart from the engine, whose memory is the
+/// same: no more symbols are taken, and the highest power comes first.
 #[derive(Drop)]
 pub struct CheckSymbols<C: Checksum> {
     symbols: [C::SymbolField; 16],

@@ -4,7 +4,7 @@ ghost use Rattle.std.specs.Prelude.{◌≡◌, ◌<◌, ◌≤◌, Some, None};
 use crate::checksum::Checksum;
 use field::field::Field;
 
-/// The number of a symbol.
+/// The number of a symbol. By `as`: that the number fits is the alphabet's law, which `try_from` would test again.
 pub fn number<C: Checksum>(symbol: C::SymbolField) -> u8
     ensures number { result ≡ C.SymbolField.Field.numbers.number symbol }
     ensures below { result < 32 }

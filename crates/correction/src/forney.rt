@@ -6,7 +6,7 @@ ghost use Rattle.correction.specs.Forney.{forney, Valued};
 
 use field::arithmetic::quotient;
 use field::field::{ExtensionField, Field};
-use field::powers::powi;
+use field::powers::powers;
 use polynomial::polynomial::evaluate;
 
 /// What the equation reads: the evaluator, the derivative, and where the roots of the generator polynomial begin, which
@@ -18,17 +18,8 @@ pub(crate) struct Forney<'a, E: ExtensionField> {
     pub(crate) root: E,
     pub(crate) first: usize,
     ghost nonzero: { root ≢ E.Field.field.𝟘 },
-    ghost small: { first ≤ 65535 },
     ghost some: { 0 < length evaluator.now },
     ghost alphabet: { E.BaseField.Field.numbers.size ≡ 32 },
-}
-
-// x to a power.
-fn power<F: Field>(x: F, n: usize) -> F
-    requires { n ≤ 65535 }
-    ensures { result ≡ pow F.field x n }
-{
-    powi(x, n as i64).unwrap()
 }
 
 impl<E: ExtensionField> Forney<'_, E> {
@@ -48,16 +39,15 @@ impl<E: ExtensionField> Forney<'_, E> {
         let back = x.multiplicative_inverse().unwrap();
         let value = evaluate(self.evaluator, back).unwrap();
         let slope = evaluate(self.derivative, back).ok()?;
-        quotient(x.mul(value).neg(), slope.mul(power(x, self.first))).ok()
+        quotient(x.mul(value).neg(), slope.mul(powers(x).nth(self.first))).ok()
     }
 
     // The number of the symbol that the change at a position is, none where it is none.
     pub(crate) fn change_at(&self, position: usize) -> Option<u8>
-        requires { position ≤ 65535 }
         ensures { (y : ℕ) → ChangeAt self.now position y → result ≡ Some y }
     {
         E::lift_laws();
-        let symbol = self.value(power(self.root, position))?.drop_to_base()?;
+        let symbol = self.value(powers(self.root).nth(position))?.drop_to_base()?;
         Some(symbol.to_number() as u8)
     }
 }

@@ -21,7 +21,6 @@ fn list_place<E: ExtensionField>(
     position: usize,
     pattern: &mut Pattern,
 ) -> Option<()>
-    requires { position ≤ 65535 }
     ensures { (y : ℕ) → ChangeAt forney.now position y → Added record { place = place; change = y } pattern.old result pattern.new }
 {
     let change = forney.change_at(position)?;
@@ -34,7 +33,6 @@ pub(crate) fn list_erasures<E: ExtensionField>(
     marks: &[bool],
     pattern: &mut Pattern,
 ) -> Option<()>
-    requires { length marks.now ≤ 65535 }
     ensures { Lists (ChangeAt forney.now) (length marks.now) (positions marks.now) pattern.old result pattern.new }
 {
     for (place, marked) in marks.iter().enumerate() {
@@ -63,8 +61,7 @@ pub(crate) fn list_errors<E: ExtensionField>(
     len: usize,
     pattern: &mut Pattern,
 ) -> Option<()>
-    requires short { len ≤ 65535 }
-    requires list { 0 < length locator.now }
+    requires { 0 < length locator.now }
     ensures { (ord : ℕ) → HasOrder E.Field.field forney.now.root ord → Lists (OnRow len (ChangeAt forney.now)) len (map (root_position ord) (root_indices E.Field.field locator.now forney.now.root ord)) pattern.old result pattern.new }
 {
     let order = multiplicative_order(forney.root).unwrap();

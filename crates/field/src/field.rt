@@ -30,11 +30,11 @@ pub trait Field: Copy + PartialEq {
     fn generator() -> Self
         ensures { result ≡ units.generator };
 
-    /// How many elements there are but ZERO: MULTIPLICATIVE_ORDER.
+    /// How many elements there are but ZERO.
     fn order() -> usize
         ensures { result ≡ units.order };
 
-    /// The divisors of the order, ascending: MULTIPLICATIVE_ORDER_FACTORS.
+    /// The divisors of the order, ascending.
     fn order_factors<'a>() -> &'a [usize]
         ensures { result.now ≡ units.divisors };
 

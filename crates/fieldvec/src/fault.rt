@@ -1,4 +1,4 @@
-// Why a list function refuses, and the one test that all of them begin with.
+// Why a list function refuses, and the test that most of them begin with.
 ghost use Rattle.std.specs.Prelude.{◌≡◌, ◌<◌, ◌≤◌, IfOk};
 ghost use Rattle.fieldvec.specs.Faults.{told, admitted};
 ghost use Rattle.fieldvec.specs.declared.fault.ListFault.TheVariants.{Field as of_field};
@@ -49,8 +49,8 @@ impl From<ListFault> for Refusal {
     }
 }
 
-// How many entries an answer has, unless it is refused: the shortest list given must have an entry, and the list lent
-// for the answer must have room.
+/// How many entries an answer has, unless it is refused: the shortest list given must have an entry, and the list lent
+/// for the answer must have room.
 pub fn admit(given: usize, needed: usize, room: usize) -> Result<usize, ListFault>
     ensures answer { result ≡ admitted given needed room }
     ensures holds { IfOk result (λ n. (n ≡ needed) × (n ≤ room) × (0 < given)) }

@@ -30,6 +30,7 @@ fn combined<F: Field, O: Fn(F, F) -> F>(
         out.new ≡ written (min (length a.now) (length b.now)) (by_entries F.field h a.now b.now) out.old }
 {
     let n = admit(a.len().min(b.len()), a.len().max(b.len()), out.len())?;
+    // By place, since past the end of the shorter list its entry is ZERO.
     for (i, place) in out[..n].iter_mut().enumerate() {
         *place = of(entry(a, i), entry(b, i));
     }

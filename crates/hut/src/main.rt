@@ -6,7 +6,7 @@
 use hut_lines::sheets::{LINE_BYTES, finish_sheet, line_count};
 use std::io::{Read, Write};
 
-/// What is read at most.
+/// What is read at most. As in `seal`: no crate below the programs reads anything.
 const INPUT_BYTES: u64 = 65_536;
 
 fn run(rt: &HostRuntime) -> anyhow::Result<()> {

@@ -22,7 +22,8 @@ fn subtract_shifted<F: Field>(conn: &mut [F], old: &[F], c: F, x: usize)
     }
 }
 
-// Step 5: the connection list is corrected and grows, and as it was it becomes the old one.
+// Step 5: the connection list is corrected and grows, and as it was it becomes the old one. The lists are lent, so that how much of
+// each is in use is a number beside it; a record of them all would be made for this one call.
 fn grow<F: Field>(
     conn: &mut [F],
     old: &mut [F],

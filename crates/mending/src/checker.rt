@@ -68,7 +68,7 @@ impl Proposal<'_> {
         true
     }
 
-    // Whether each doubted place is named.
+    // Whether each doubted place is named. By place and not over the marks, since places are what the records name.
     fn covers(&self) -> bool
         ensures { Decides result (Covers self.now.slip.now self.now.records.now) }
     {

@@ -20,7 +20,7 @@ use field::field::{ExtensionField, Field};
 use slip::slip::Slip;
 
 /// Solve: lists the changes from the near row at the front of the caller's records, and answers how many they are and how
-/// many of them change something. The slip stays as it is.
+/// many of them change something, two numbers that callers take apart at once. The slip stays as it is.
 pub fn solve<C: Checksum>(
     slip: &Slip,
     records: &mut [Record],

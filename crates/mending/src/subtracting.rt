@@ -1,4 +1,4 @@
-// Changes subtracted from a slip's row.
+// Changes subtracted from a slip's row. Symbols are numbers here, as the slip has them, so each function says that they are below 32.
 ghost use Rattle.std.specs.Prelude.{◌≡◌, ◌<◌, ◌≤◌, All, map, length};
 ghost use Rattle.book.specs.Book.{row, sure};
 ghost use Rattle.book.specs.Codes.{rows_of};

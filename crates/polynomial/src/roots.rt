@@ -6,7 +6,7 @@
 pub struct Roots<F> {
     pub(crate) base: F,
     pub(crate) order: usize,
-    /// How many indices are left.
+    /// How many indices are left, counted down, so that a proof sees that the search ends.
     pub(crate) left: usize,
     /// The base to the power of the next of them.
     pub(crate) power: F,

@@ -9,7 +9,7 @@ use field::field::Field;
 use fieldvec::fault::{ListFault, admit};
 use polynomial::polynomial::top_power;
 
-// Term n of the product of two lists.
+/// Term n of the product of two lists.
 pub fn product_term<F: Field>(p: &[F], q: &[F], n: usize) -> F
     ensures { result ≡ term_of F.field p.now (coeff F.field q.now) n }
 {

@@ -8,7 +8,7 @@
 
 use anyhow::{Context, anyhow};
 use book::code_fault::CodeFault;
-use book::record::Record;
+use book::record::{BLANK, Record};
 use checksum::checksum::Checksum;
 use codes::bech32::Bech32;
 use codes::finish::Finish;
@@ -27,20 +27,16 @@ const RECORDS: usize = 16;
 
 const WORKING: usize = 216;
 
-const NO_RECORD: Record = Record {
-    place: 0,
-    change: 0,
-};
-
-// What a solve or a settle lists: the first of the records that were lent, and how many of these change something.
+// What a solve or a settle lists: the first of the records that were lent, and how many of these change something. A slice and a
+// number, since that the number is within the slice only a proof would know, and what is printed has none.
 #[derive(Clone, Copy)]
-struct Listing<'a> {
+struct Listed<'a> {
     lent: &'a [Record],
     written: usize,
     nonzero: usize,
 }
 
-impl Display for Listing<'_> {
+impl Display for Listed<'_> {
     fn fmt<W: fmt::Write>(&self, f: &mut fmt::Formatter<W>) -> fmt::Result {
         for record in self.lent.iter().take(self.written) {
             write!(f, "{}:{} ", record.place, record.change)?;
@@ -52,7 +48,7 @@ impl Display for Listing<'_> {
 // The same as the original lists it, on a row of so many symbols.
 #[derive(Clone, Copy)]
 struct ByPosition<'a> {
-    listing: Listing<'a>,
+    listing: Listed<'a>,
     symbols: usize,
 }
 
@@ -90,9 +86,9 @@ fn doubt_places(slip: &mut Slip, places: &str) -> anyhow::Result<()> {
 fn listed(
     outcome: Result<(usize, usize), CodeFault>,
     lent: &[Record],
-) -> Result<Listing<'_>, CodeFault> {
+) -> Result<Listed<'_>, CodeFault> {
     let (written, nonzero) = outcome?;
-    Ok(Listing {
+    Ok(Listed {
         lent,
         written,
         nonzero,
@@ -102,7 +98,7 @@ fn listed(
 // The answer of a solve and of a settle, which have to list the same.
 fn answer_by<C: Checksum>(heap: Global, slip: &mut Slip) -> anyhow::Result<String> {
     let mut work = vec![in heap; C::CorrectionField::zero(); WORKING]?;
-    let mut records = [NO_RECORD; RECORDS];
+    let mut records = [BLANK; RECORDS];
     let outcome = solve::<C>(slip, &mut records, work.as_mut_slice());
     let solved = listed(outcome, &records);
     let list = write_outcome(heap, solved)?;

@@ -86,6 +86,7 @@ fn answer(heap: Global, command: &str) -> anyhow::Result<String> {
         .split_once(' ')
         .context("a command without an argument")?;
     match size {
+        // A match in each program: what differs is an argument of type, which no value can carry.
         "32" => answer_in::<Fe32>(heap, operation, arguments),
         "1024" => answer_in::<Fe1024>(heap, operation, arguments),
         "32768" => answer_in::<Fe32768>(heap, operation, arguments),

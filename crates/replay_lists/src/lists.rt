@@ -34,7 +34,7 @@ fn convolved<F: Field>(heap: Global, a: &[F], s: &[F]) -> anyhow::Result<String>
     write_front(heap, outcome, lent.as_slice())
 }
 
-// There are at most as many roots as elements other than ZERO.
+// There are at most as many roots as elements other than ZERO, so that a count ends the loop, where a `while` would need a proof.
 fn roots<F: Field>(heap: Global, list: &[F], base: F) -> anyhow::Result<String> {
     let mut cursor = match find_nonzero_distinct_roots(base) {
         Ok(cursor) => cursor,

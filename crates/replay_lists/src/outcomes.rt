@@ -1,6 +1,5 @@
 // Outcomes of the functions that write their answer into a list that is lent to them.
-ghost use Rattle.std.specs.Prelude.{◌≤◌, IfOk, length};
-
+use anyhow::Context;
 use field::field::Field;
 use fieldvec::fault::ListFault;
 use replay::elements::write_elements;
@@ -12,11 +11,12 @@ pub fn write_front<F: Field>(
     heap: Global,
     outcome: Result<usize, ListFault>,
     lent: &[F],
-) -> anyhow::Result<String>
-    requires { IfOk outcome (λ count. count ≤ length lent.now) }
-{
+) -> anyhow::Result<String> {
     match outcome {
-        Ok(count) => write_elements(heap, &lent[..count]),
+        Ok(count) => {
+            let entries = lent.get(..count).context("more entries than were lent")?;
+            write_elements(heap, entries)
+        }
         Err(fault) => write_refusal(heap, fault),
     }
 }

@@ -37,7 +37,7 @@ pub struct Turn<K> {
     pub ask: Ask<K>,
 }
 
-/// What a call tells that was done.
+/// What a call tells that was done. No `Option` of a listing: a call that lists nothing was done all the same, and says so by name.
 #[derive(Clone, Copy)]
 pub enum Answer {
     /// There is nothing to tell.

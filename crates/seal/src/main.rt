@@ -9,7 +9,7 @@ use std::io;
 use std::io::{Read, Write};
 use typed::lines::Lines;
 
-/// What is read at most.
+/// What is read at most. As in `hut`: no crate below the programs reads anything.
 const INPUT_BYTES: u64 = 65_536;
 
 fn write_sealed(out: &mut impl Write, line: &[u8]) -> io::Result<()> {

@@ -10,11 +10,12 @@ use field::fault::{Layer, Refusal};
 pub enum LineFault {
     /// The slip refuses what stands at this place.
     OnSlip(SlipFault, usize),
-    /// The byte at this place is neither a character of the set, nor a space, a question mark or a slash.
+    /// The byte at this place may not stand there: it is outside the set, and no space, slash or question mark; or it is a question
+    /// mark in a line in which nothing may be unknown.
     OutsideSet(usize),
     /// The letter at this place has not the case of the line's first letter.
     OtherCase(usize),
-    /// There are other than the symbols of a boat and a time.
+    /// There are too few symbols, or too many.
     SymbolCount,
     /// The time is past the last tenth of a second of a day.
     LateTime,

@@ -38,7 +38,8 @@ impl Pattern {
         &self.records[..self.len]
     }
 
-    /// One record more; none, and nothing changed, where there are sixteen.
+    /// One record more; none, and nothing changed, where there are sixteen. An `Option` of nothing, so that `?` ends a search that
+    /// has no room: no caller asks why.
     pub fn push(&mut self, record: Record) -> Option<()>
         ensures { Pushed «record» self.old result self.new }
     {

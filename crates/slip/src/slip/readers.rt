@@ -1,4 +1,4 @@
-// What a slip tells.
+// What a slip tells. `Holdable` is what the invariant says of the book, told to callers, who see the book alone.
 ghost use Rattle.std.specs.Prelude.{◌≡◌, ℕ, ◌<◌, length, slice_index};
 ghost use Rattle.book.specs.Book.{row, marks, symbol_at, doubted_at, doubts};
 ghost use Rattle.slip.specs.View.{Holdable};
