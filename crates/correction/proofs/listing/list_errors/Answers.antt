@@ -8,7 +8,7 @@ returns-then-position-len g c =
     let F = g.E.Field.field in
     let locator = c.args.locator.now in
     let len = c.args.len in
-    let found = next_index F locator c.requires.list c.loop-index.roots c.next.new.self c.next.ensures.answer c.next.ensures.rest c.unwrap.ensures c.in-Some.is in
+    let found = next_index F locator c.requires c.loop-index.roots c.next.new.self c.next.ensures.answer c.next.ensures.rest c.unwrap.ensures c.in-Some.is in
     let onward = first_position len c.unwrap-order.result c.loop-index.invariant.1 found c.position_of-position.ensures in
     let past = c.if-position-len.true in
     for_order F c.args.forney.now.root locator len c.loop-index.invariant.0 (λ Y l. let on_row = (onward Y l).0.changes.0.0 in absurd (omega arith))
@@ -18,7 +18,7 @@ returns-in_err-list_place g c =
     let F = g.E.Field.field in
     let locator = c.args.locator.now in
     let len = c.args.len in
-    let found = next_index F locator c.requires.list c.loop-index.roots c.next.new.self c.next.ensures.answer c.next.ensures.rest c.unwrap.ensures c.in-Some.is in
+    let found = next_index F locator c.requires c.loop-index.roots c.next.new.self c.next.ensures.answer c.next.ensures.rest c.unwrap.ensures c.in-Some.is in
     let onward = first_position len c.unwrap-order.result c.loop-index.invariant.1 found c.position_of-position.ensures in
     for_order F c.args.forney.now.root locator len c.loop-index.invariant.0 (never_none len onward (λ y v. c.list_place.ensures y v.1) c.in_err-list_place.was)
 
@@ -27,7 +27,7 @@ loop-index-preserved g c =
     let F = g.E.Field.field in
     let locator = c.args.locator.now in
     let len = c.args.len in
-    let found = next_index F locator c.requires.list c.loop-index.roots c.next.new.self c.next.ensures.answer c.next.ensures.rest c.unwrap.ensures c.in-Some.is in
+    let found = next_index F locator c.requires c.loop-index.roots c.next.new.self c.next.ensures.answer c.next.ensures.rest c.unwrap.ensures c.in-Some.is in
     let onward = first_position len c.unwrap-order.result c.loop-index.invariant.1 found c.position_of-position.ensures in
     (c.loop-index.invariant.0, onward_more len onward (λ y v. c.list_place.ensures y v.1))
 
@@ -36,5 +36,5 @@ returns g c =
     let F = g.E.Field.field in
     let locator = c.args.locator.now in
     let len = c.args.len in
-    let none = no_index F locator c.requires.list c.loop-index.roots c.next.ensures.answer c.unwrap.ensures c.in_default.not-Some in
+    let none = no_index F locator c.requires c.loop-index.roots c.next.ensures.answer c.unwrap.ensures c.in_default.not-Some in
     for_order F c.args.forney.now.root locator len c.loop-index.invariant.0 (onward_all len (none_left len c.unwrap-order.result c.loop-index.invariant.1 none))
