@@ -15,7 +15,7 @@ use Rattle.algebra.specs.Rows as rows
 use Rattle.algebra.specs.Rows.{change, doubted_places, doubted_positions, error_positions, found_change, found_locator, found_slope, positions, wrong_places}
 use Rattle.algebra.specs.Series.{All, Mem}
 use Rattle.algebra.proofs.Changes.{length_wrong}
-use Rattle.algebra.proofs.Flags.{length_positions, positions_below}
+use Rattle.algebra.proofs.Flags.{positions_below}
 use Rattle.algebra.proofs.Members.{all_append, all_at, all_from, all_left, all_right}
 use Rattle.algebra.proofs.Mended.{mends}
 use Rattle.algebra.proofs.Places.{change_of_place}
@@ -25,7 +25,7 @@ use Rattle.book.specs.Codes.{Near, Rows, rows_of}
 use Rattle.book.specs.Mending.{changes, changes_at, doubtful, wrong}
 use Rattle.book.specs.declared.record.Record.{Record}
 use Rattle.book.proofs.Numbers.{Below, elements, in_elements, length_elements, marks_elements, near_elements, row_elements, sound_below, wrong_elements}
-use Rattle.decoding.proofs.RootPositions.{all_zero_first, length_zero_first, near_root_positions, others, others_positions, zero_first, zeros, zeros_positions}
+use Rattle.decoding.proofs.RootPositions.{all_zero_first, near_root_positions, others, others_positions, zero_first, zeros, zeros_positions}
 
 module _ (want : Place → ℕ → Bool) where
   -- which places are wanted
@@ -224,13 +224,6 @@ module _ {S E : Type 0} (N : Numbers S) (s : FieldOn S) (e : FieldOn E) (up : S 
         let errs = error_positions s e up C b_s n_s in
         let R = Right N s e up C b n in
         subst (All R) (sym roots_are) (all_zero_first R errs (all_left R errs (doubted_positions s e up C b_s) rights))
-
-    -- the locator has as many roots as its degree is
-    pub as_many_roots : length (found_locator s e up C (in_elements N b)) ≡ length (root_list N s e up C b ord) + 1
-    as_many_roots =
-        let fs = wrong_places s.discrete b_s n_s in
-        (mends s e up L C lawful b_s n_s short_s close).as_many
-        ∙ ap (λ k. k + 1) (sym (length_positions fs) ∙ sym (length_zero_first (positions fs)) ∙ ap length (sym roots_are))
 
     -- the records of the doubted positions and then of the roots
     pub listed_changes : map (record_at N s e up C b n) (positions (marks b)) ++ map (record_at N s e up C b n) (root_list N s e up C b ord) ≡ changes (rows_of N s C) b n
