@@ -11,7 +11,8 @@ use checksum::symbols::{element, number};
 use field::arithmetic::difference;
 use slip::slip::Slip;
 
-// A slip with the changes subtracted from the row, nothing doubted.
+// A slip with the changes subtracted from the row, nothing doubted. The row is worked on in fixed memory, as long as any
+// slip's.
 pub(crate) fn mended<C: Checksum>(slip: &Slip, records: &[Record]) -> Slip
     requires { All (λ c. c.change < 32) records.now }
     ensures mended { result ≡ map sure (subtracted (rows_of C.SymbolField.Field.numbers C.SymbolField.Field.field C.Checksum.code) records.now (row slip.now)) }

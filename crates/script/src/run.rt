@@ -34,6 +34,8 @@ pub fn run<K: CodeSet>(
     ensures untouched { Untouched (length slips.old) turns.now replies.old replies.new }
 {
     K::laws();
+    // Slips and replies are reached by their numbers: after a slice's `get_mut`, or an `iter_mut` in a `zip`, nothing is known
+    // of what the slice holds, so that neither the stories nor the untouched replies could be told.
     let steps = turns.len().min(replies.len());
     for (i, turn) in turns[..steps].iter().enumerate() {
         // By place: of replies that are written under a zip of `iter_mut` a proof knows nothing once the loop is over.
