@@ -30,8 +30,8 @@ pub fn solve<C: Checksum>(
     ensures past { drop (written result) records.new ≡ drop (written result) records.old }
     ensures working { work.new ≡ cleared C.CorrectionField.Field.field result work.old }
 {
-    let pattern = find::<C>(slip, records.len(), work)?;
-    Ok(list::<C>(&pattern, records))
+    let found = find::<C>(slip, records.len(), work)?;
+    Ok(list::<C>(&found, records))
 }
 
 /// Settle: as solve, and the slip then holds the near row, nothing doubted.

@@ -34,6 +34,15 @@ mod tests {
     use field::fault::FieldFault;
 
     #[test]
+    fn writes_the_number(rt: HostRuntime) -> anyhow::Result<()> {
+        assert_eq!(rt;
+            write_refusal(rt.alloc(), FieldFault::Zero)?.as_str(),
+            "refusal 12"
+        );
+        Ok(())
+    }
+
+    #[test]
     fn writes_value_or_refusal(rt: HostRuntime) -> anyhow::Result<()> {
         for (outcome, text) in [(Ok(31u16), "31"), (Err(FieldFault::Zero), "refusal 12")] {
             assert_eq!(rt; write_outcome(rt.alloc(), outcome)?.as_str(), text);

@@ -5,13 +5,13 @@ use Rattle.book.specs.Codes.{rows_of}
 use Rattle.mending.proofs.Finding.{solved}
 use Rattle.mending.proofs.mending.solve.Goals as goal
 
-pub returns-in_err-pattern-clause-follows : goal.returns-in_err-pattern-clause-follows
-returns-in_err-pattern-clause-follows g c =
+pub returns-in_err-found-clause-follows : goal.returns-in_err-found-clause-follows
+returns-in_err-found-clause-follows g c =
     let p = err_from_is_err_and c.from_residual.result c.from_residual.ensures.1 in
-    rw (p.1, p.2) (solves c.in_err-pattern.ensures.found)
+    rw (p.1, p.2) (solves c.in_err-found.ensures.found)
 
 pub returns-clause-follows : goal.returns-clause-follows
 returns-clause-follows g c =
     let C = rows_of g.C.SymbolField.Field.numbers g.C.SymbolField.Field.field g.C.Checksum.code in
-    solved C (length c.args.records.now) (length c.args.work.now) c.args.slip.now c.in_ok-pattern.pattern c.list.new.records c.args.records.now
-    c.list.result.0 c.list.result.1 c.in_ok-pattern.ensures.found c.list.ensures.many c.list.ensures.changed c.list.ensures.listed
+    solved C (length c.args.records.now) (length c.args.work.now) c.args.slip.now c.in_ok-found.pattern c.list.new.records c.args.records.now
+    c.list.result.0 c.list.result.1 c.in_ok-found.ensures.found c.list.ensures.many c.list.ensures.changed c.list.ensures.listed
