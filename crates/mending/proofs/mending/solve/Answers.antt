@@ -13,5 +13,5 @@ returns-in_err-found-clause-follows g c =
 pub returns-clause-follows : goal.returns-clause-follows
 returns-clause-follows g c =
     let C = rows_of g.C.SymbolField.Field.numbers g.C.SymbolField.Field.field g.C.Checksum.code in
-    solved C (length c.args.records.now) (length c.args.work.now) c.args.slip.now c.in_ok-found.pattern c.list.new.records c.args.records.now
+    solved C (length c.args.records.now) (length c.args.work.now) c.args.slip.now c.in_ok-found.found c.list.new.records c.args.records.now
     c.list.result.0 c.list.result.1 c.in_ok-found.ensures.found c.list.ensures.many c.list.ensures.changed c.list.ensures.listed
