@@ -1,6 +1,6 @@
 // From syndromes to locators: the erasures are folded out of the syndromes, the shortest register of what is left locates
 // the errors, and its product with the erasures' locator is the locator of both. Each list is written at the front of a
-// part of the working list, and lent on from there.
+// part of the working list, and lent on from there. That it has an entry each step tells the next, which asks for it.
 ghost use Rattle.std.specs.Prelude.{◌≡◌, ◌+◌, ◌-◌, ◌*◌, ◌<◌, ◌≤◌, min, length, take, ◌≢◌};
 ghost use Rattle.algebra.specs.Decode.{error_locator, errata_locator, errata_evaluator};
 ghost use Rattle.algebra.specs.Field.{pow};

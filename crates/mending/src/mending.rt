@@ -1,4 +1,5 @@
-// Mending by a code: a search proposes records, the checker accepts them or not, and only then is anything told.
+// Mending by a code: a search proposes records, the checker accepts them or not, and only then is anything told. Clauses spell
+// out the rows of a code: a word for them would take the same three arguments.
 ghost use Rattle.std.specs.Prelude.{◌≡◌, ◌≤◌, ◌++◌, ◌==◌, not, count_by, length, drop};
 ghost use Rattle.std.specs.Result.{result_err};
 ghost use Rattle.book.specs.Calls.{Follows, solve, settle, unmendable};

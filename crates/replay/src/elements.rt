@@ -55,6 +55,7 @@ pub fn read_elements<F: Field>(heap: Global, text: &str) -> anyhow::Result<Vec<F
 pub fn write_elements<F: Field>(heap: Global, elements: &[F]) -> anyhow::Result<String>
     ensures { IfOk result (λ text. string_bytes text ≡ listed (map F.numbers.number elements.now)) }
 {
+    // The numbers, and not the elements by their numbers, since the clause speaks of a list of numbers.
     let numbers: Vec<u16> = elements
         .iter()
         .map(|element| element.to_number())

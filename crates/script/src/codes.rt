@@ -17,7 +17,8 @@ use mending::mending::{settle, solve};
 use slip::slip::Slip;
 
 /// A set of codes. A value of it names one of them; its desk owns the working lists of all of them, each over the field
-/// in which its code corrects, so that a caller need not know those fields.
+/// in which its code corrects, so that a caller need not know those fields. The slip, the records and the desk of a call are lent by
+/// three owners, and so are three parameters.
 pub trait CodeSet: Copy {
     type Desk;
 

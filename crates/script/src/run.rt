@@ -38,7 +38,6 @@ pub fn run<K: CodeSet>(
     // of what the slice holds, so that neither the stories nor the untouched replies could be told.
     let steps = turns.len().min(replies.len());
     for (i, turn) in turns[..steps].iter().enumerate() {
-        // By place: of replies that are written under a zip of `iter_mut` a proof knows nothing once the loop is over.
         if turn.slip < slips.len() {
             replies[i] = answer(&mut slips[turn.slip], turn.ask, desk);
         }

@@ -47,7 +47,7 @@ impl<'a> Iterator for Pieces<'a> {
     }
 }
 
-// How many spaces stand at the front.
+// How many spaces stand at the front. The search is that of the next function but for its test, one line in each.
 fn leading_spaces(bytes: &[u8]) -> usize
     ensures value { result ≡ spaces bytes.now }
     ensures bound { result ≤ length bytes.now }
