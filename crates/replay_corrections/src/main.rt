@@ -30,13 +30,13 @@ const WORKING: usize = 216;
 // What a solve or a settle lists: the first of the records that were lent, and how many of these change something. A slice and a
 // number, since that the number is within the slice only a proof would know, and what is printed has none.
 #[derive(Clone, Copy)]
-struct Listed<'a> {
+struct Found<'a> {
     lent: &'a [Record],
     written: usize,
     nonzero: usize,
 }
 
-impl Display for Listed<'_> {
+impl Display for Found<'_> {
     fn fmt<W: fmt::Write>(&self, f: &mut fmt::Formatter<W>) -> fmt::Result {
         for record in self.lent.iter().take(self.written) {
             write!(f, "{}:{} ", record.place, record.change)?;
@@ -48,7 +48,7 @@ impl Display for Listed<'_> {
 // The same as the original lists it, on a row of so many symbols.
 #[derive(Clone, Copy)]
 struct ByPosition<'a> {
-    listing: Listed<'a>,
+    listing: Found<'a>,
     symbols: usize,
 }
 
@@ -86,9 +86,9 @@ fn doubt_places(slip: &mut Slip, places: &str) -> anyhow::Result<()> {
 fn listed(
     outcome: Result<(usize, usize), CodeFault>,
     lent: &[Record],
-) -> Result<Listed<'_>, CodeFault> {
+) -> Result<Found<'_>, CodeFault> {
     let (written, nonzero) = outcome?;
-    Ok(Listed {
+    Ok(Found {
         lent,
         written,
         nonzero,
