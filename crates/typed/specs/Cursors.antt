@@ -1,8 +1,6 @@
 -- What a piece holds, and what a cursor has yet to hand out. Assumes nothing.
-use Rattle.std.specs.Prelude.{ℕ, List}
-use Rattle.typed.specs.Lines.{lines_of}
+use Rattle.std.specs.Prelude.{List}
 use Rattle.typed.specs.Pieces.{Part, group, remark, pieces}
-use Rattle.typed.specs.declared.lines.Lines.{Lines}
 use Rattle.typed.specs.declared.pieces.Piece.{Piece}
 use Rattle.typed.specs.declared.pieces.Piece.TheVariants.{Group, Remark}
 use Rattle.typed.specs.declared.pieces.Pieces.{Pieces}
@@ -13,6 +11,3 @@ bytes_of (Remark bytes) = remark bytes.now
 
 abbrev pub coming : Pieces → List Part
 coming cursor = pieces cursor.rest.now
-
-abbrev pub coming_lines : Lines → List (List ℕ)
-coming_lines cursor = lines_of cursor.rest.now

@@ -1,5 +1,4 @@
-// What is typed: a sheet, cut into its lines, and a line, cut into its pieces.
+// What is typed: a line, cut into its pieces.
 #![tactic(auto)]
 
-pub mod lines;
 pub mod pieces;
