@@ -1,3 +1,2 @@
-pub mod Counted
-pub mod Putting
+pub mod Answered
 pub mod Saying

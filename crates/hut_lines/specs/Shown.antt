@@ -5,8 +5,8 @@
 --   shown        what is told of it
 --   Shown        a text is the output line of what a typed line says
 --   Output       the first lines of a sheet, counted from 1, each have their output line
---   fitting      how many lines there is room for
-use Rattle.std.specs.Prelude.{◌≡◌, ℕ, ◌+◌, ◌*◌, ◌/◌, ◌<◌, min, true, List, [], length, take, drop, Some, None, Ok, Err, Result, slice_index_or}
+--   Whole        each line of a sheet has its output line, and there is nothing else
+use Rattle.std.specs.Prelude.{◌≡◌, ℕ, ◌+◌, ◌*◌, ◌<◌, true, List, [], length, take, drop, Some, None, Ok, Err, Result, slice_index_or}
 use Rattle.field.specs.declared.fault.Refusal.{Refusal}
 use Rattle.gf32.specs.Gf32.{gf32, gf32_numbers}
 use Rattle.codes.specs.Finish.{finish}
@@ -56,5 +56,5 @@ Shown C number line text = (outcome : Result Reading Refusal) × OnlySays C line
 abbrev pub Output : Rows → ℕ → List (List ℕ) → List ℕ → Type 0
 Output C m lines bytes = (k : ℕ) → k < m → Shown C (k + 1) (slice_index_or lines k []) (take 31 (drop (31 * k) bytes))
 
-abbrev pub fitting : List (List ℕ) → List ℕ → ℕ
-fitting lines out = min (length lines) (length out / 31)
+abbrev pub Whole : Rows → List (List ℕ) → List ℕ → Type 0
+Whole C lines bytes = (length bytes ≡ 31 * length lines) × Output C (length lines) lines bytes

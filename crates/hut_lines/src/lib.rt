@@ -1,6 +1,6 @@
-// What the hut's program does, as functions from bytes to bytes: typed lines of a sheet to output lines.
+// What the hut's program does: typed lines of a sheet to output lines, each as soon as it is complete.
 #![tactic(auto)]
 
 pub mod lines;
 pub mod reading;
-pub mod sheets;
+pub mod streams;
