@@ -45,7 +45,7 @@ for program in hut seal; do
     { many '\n' 65530; printf 'y55v 0lqx\n'; } > "$made/in"
     expect 'a line that the limit cuts' 0 65531 '65536 bytes were read; more follow'
     head -c 60000 "$program/out/$program" > "$made/in"
-    expect 'bytes of every kind' 0 "$({ cat "$made/in"; printf x; } | wc -l)" ''
+    expect 'bytes of every kind' 0 "$(LC_ALL=C grep -ac '' "$made/in")" ''
 
     "$program/out/$program" < . > "$made/out" 2> "$made/err"
     [ $? -eq 1 ] || say 'an input that cannot be read: another status'
