@@ -1,18 +1,18 @@
 -- A pattern that fits leads to a near row, and the changes to a near row are a pattern that fits. Assumes nothing.
+use Rattle.std.specs.List.{AllByRecursion}
 use Rattle.std.proofs.Common.{◌≡◌, ℕ, zero, suc, ◌+◌, ◌-◌, ◌<◌, ◌≤◌, Bool, true, false, cond, not, ◌&&◌, List, [], ◌∷◌, ◌++◌, length, get_or, take, drop, set, sym, refl, ap, ap₂, ◌∙◌, subst, arith, length-append}
 use native.Mathlib.Decide.{ℕ_discrete}
 use Rattle.std.proofs.lemmas.List.{length-map, length-set}
 use Rattle.std.proofs.lemmas.List.Sums.{count_by-le-length, sum_by-append, sum_by-cons}
 use Rattle.std.proofs.lemmas.Bool.{both_ways}
 use Rattle.algebra.specs.Rows.{count, refuted, wrong_places, doubted_places, errors}
-use Rattle.algebra.specs.Series.{All, Mem, here, there}
+use Rattle.algebra.specs.Series.{Mem, here, there}
 use Rattle.algebra.proofs.Members.{all_append, all_map}
 use Rattle.algebra.specs.Rows as rows
 use Rattle.book.specs.Book.{Place, Book, row, doubts, doubted_at}
 use Rattle.book.specs.Codes.{Rows, Lawful, Near}
 use Rattle.book.specs.Mending.{doubtful, wrong, changes_at, changes, subtracted, Different, places, elsewhere, Fits}
 use Rattle.book.specs.declared.record.Record.{Record}
-use Rattle.book.proofs.Doubts.{doubts_places}
 use Rattle.book.proofs.Subtracting.{changes_subtracted}
 
 -- no place is wrong by the book's own row
@@ -45,7 +45,7 @@ errors_set (a ∷ b) (x ∷ vs) (suc p) v = by (wrong a x) (errors_set b vs p v)
     by false h = h
 
 -- what holds of each record's place holds of each of the places
-pub all_places : (P : ℕ → Type 0) (cs : List Record) → All (λ c. P c.place) cs → All P (places cs)
+pub all_places : (P : ℕ → Type 0) (cs : List Record) → AllByRecursion (λ c. P c.place) cs → AllByRecursion P (places cs)
 all_places P [] h = tt
 all_places P (c ∷ cs) h = (h.0, all_places P cs h.1)
 
@@ -70,7 +70,6 @@ module _ (C : Rows) where
         let few = errors_subtracted b cs (row b) in
         let none = errors_row b in
         let within = fits.within in
-        let doubted = doubts_places b in
         omega arith;
   }
 
@@ -86,7 +85,7 @@ module _ (C : Rows) where
     abbrev WantedFrom : ℕ → Book → List ℕ → Record → Type 0
     WantedFrom i b n c = (j : ℕ) × (c.place ≡ i + j) × Wanted b n j c
 
-    all_wanted : (i : ℕ) (b : Book) (n : List ℕ) → All (WantedFrom i b n) (changes_at want C i b n)
+    all_wanted : (i : ℕ) (b : Book) (n : List ℕ) → AllByRecursion (WantedFrom i b n) (changes_at want C i b n)
     all_wanted i [] n = tt
     all_wanted i (a ∷ b) [] = tt
     all_wanted i (a ∷ b) (v ∷ n) = by (want a v) refl (all_map (WantedFrom (i + 1) b n) (WantedFrom i (a ∷ b) (v ∷ n)) later (changes_at want C (i + 1) b n) (all_wanted (i + 1) b n))
@@ -94,8 +93,8 @@ module _ (C : Rows) where
         later : (c : Record) → WantedFrom (i + 1) b n c → WantedFrom i (a ∷ b) (v ∷ n) c
         later c w = let e = w.1 in (suc w.0, omega arith, w.2)
 
-        by : (t : Bool) → want a v ≡ t → All (WantedFrom i (a ∷ b) (v ∷ n)) (changes_at want C (i + 1) b n)
-            → All (WantedFrom i (a ∷ b) (v ∷ n)) (cond t (record { place = i; change = C.less a.symbol v } ∷ changes_at want C (i + 1) b n) (changes_at want C (i + 1) b n))
+        by : (t : Bool) → want a v ≡ t → AllByRecursion (WantedFrom i (a ∷ b) (v ∷ n)) (changes_at want C (i + 1) b n)
+            → AllByRecursion (WantedFrom i (a ∷ b) (v ∷ n)) (cond t (record { place = i; change = C.less a.symbol v } ∷ changes_at want C (i + 1) b n) (changes_at want C (i + 1) b n))
         by true q h = ((zero, omega arith, (q, refl)), h)
         by false q h = h
 
@@ -124,7 +123,7 @@ module _ (C : Rows) where
     wanted_drop (suc k) (a ∷ b) (v ∷ n) j (suc p) c e w = wanted_drop k b n j p c (omega arith) w
 
     -- places ascend
-    all_from_place : (i : ℕ) (b : Book) (n : List ℕ) → All (λ c. i ≤ c.place) (changes_at want C i b n)
+    all_from_place : (i : ℕ) (b : Book) (n : List ℕ) → AllByRecursion (λ c. i ≤ c.place) (changes_at want C i b n)
     all_from_place i b n = all_map (WantedFrom i b n) (λ c. i ≤ c.place) (λ c w. let e = w.1 in omega arith) (changes_at want C i b n) (all_wanted i b n)
 
     different_at : (i : ℕ) (b : Book) (n : List ℕ) → Different (places (changes_at want C i b n))
@@ -194,7 +193,7 @@ module _ (C : Rows) where
   elsewhere_most : (b : Book) (cs : List Record) → elsewhere b cs ≤ length cs
   elsewhere_most b cs = count_by-le-length (λ c. not (doubted_at c.place b)) cs
 
-  elsewhere_none : (b : Book) (cs : List Record) → All (λ c. doubted_at c.place b ≡ true) cs → elsewhere b cs ≡ 0
+  elsewhere_none : (b : Book) (cs : List Record) → AllByRecursion (λ c. doubted_at c.place b ≡ true) cs → elsewhere b cs ≡ 0
   elsewhere_none b [] h = refl
   elsewhere_none b (c ∷ cs) h =
       sum_by-cons (λ d. cond (not (doubted_at d.place b)) 1 0) c cs ∙ ap₂ ◌+◌ (ap (λ t. cond (not t) 1 0) h.0) (elsewhere_none b cs h.1)
@@ -222,34 +221,32 @@ module _ (C : Rows) where
   length_changes b n l =
       let k = length b - 1 in
       let one = length_doubted 0 b n l in
-      let doubted = doubts_places b in
       let two = length_wrong k (drop k b) (drop k n) in
       let three = length_wrong 0 (take k b) (take k n) in
       let split = errors_split k b n in
       let first = length-append (changes_at doubtful C 0 b n) (changes_at wrong C k (drop k b) (drop k n) ++ changes_at wrong C 0 (take k b) (take k n)) in
       let second = length-append (changes_at wrong C k (drop k b) (drop k n)) (changes_at wrong C 0 (take k b) (take k n)) in
-      omega (arith, one, doubted, two, three, split, first, second)
+      omega (arith, one, two, three, split, first, second)
 
   pub few_changes : (b : Book) (n : List ℕ) → Near C b n → length (changes C b n) ≤ C.bound
   few_changes b n near =
       let as_many = length_changes b n near.same_length in
       let close = near.close in
-      let doubted = doubts_places b in
-      omega (arith, as_many, close, doubted)
+      omega (arith, as_many, close)
 
-  different_append : (cs ds : List Record) → Different (places cs) → Different (places ds) → All (λ c. All (λ d. ¬ (c.place ≡ d.place)) ds) cs → Different (places (cs ++ ds))
+  different_append : (cs ds : List Record) → Different (places cs) → Different (places ds) → AllByRecursion (λ c. AllByRecursion (λ d. ¬ (c.place ≡ d.place)) ds) cs → Different (places (cs ++ ds))
   different_append [] ds h k apart = k
   different_append (c ∷ cs) ds h k apart =
       (all_places (λ q. ¬ (c.place ≡ q)) (cs ++ ds) (all_append (λ d. ¬ (c.place ≡ d.place)) cs ds (places_all (λ q. ¬ (c.place ≡ q)) cs h.0) apart.0), different_append cs ds h.1 k apart.1)
     where
-      places_all : (P : ℕ → Type 0) (es : List Record) → All P (places es) → All (λ e. P e.place) es
+      places_all : (P : ℕ → Type 0) (es : List Record) → AllByRecursion P (places es) → AllByRecursion (λ e. P e.place) es
       places_all P [] a = tt
       places_all P (e ∷ es) a = (a.0, places_all P es a.1)
 
   -- places that one test tells apart are apart
-  apart_by : (P Q : ℕ → Type 0) → ((p : ℕ) → P p → Q p → ⊥) → (cs ds : List Record) → All (λ c. P c.place) cs → All (λ d. Q d.place) ds → All (λ c. All (λ d. ¬ (c.place ≡ d.place)) ds) cs
+  apart_by : (P Q : ℕ → Type 0) → ((p : ℕ) → P p → Q p → ⊥) → (cs ds : List Record) → AllByRecursion (λ c. P c.place) cs → AllByRecursion (λ d. Q d.place) ds → AllByRecursion (λ c. AllByRecursion (λ d. ¬ (c.place ≡ d.place)) ds) cs
   apart_by P Q never cs ds h k =
-      all_map (λ c. P c.place) (λ c. All (λ d. ¬ (c.place ≡ d.place)) ds)
+      all_map (λ c. P c.place) (λ c. AllByRecursion (λ d. ¬ (c.place ≡ d.place)) ds)
       (λ c p. all_map (λ d. Q d.place) (λ d. ¬ (c.place ≡ d.place)) (λ d q e. never d.place (subst P e p) q) ds k) cs h
 
   -- what is told of the changes to a near row, of the doubted places, the last place and the others
@@ -266,30 +263,30 @@ module _ (C : Rows) where
     abbrev at_others : List Record
     at_others = changes_at wrong C 0 (take last b) (take last n)
 
-    doubts_wanted : All (λ c. Wanted doubtful b n c.place c) at_doubts
+    doubts_wanted : AllByRecursion (λ c. Wanted doubtful b n c.place c) at_doubts
     doubts_wanted = all_map (WantedFrom doubtful 0 b n) (λ c. Wanted doubtful b n c.place c) (λ c w. wanted_drop doubtful 0 b n w.0 c.place c w.1 w.2) at_doubts (all_wanted doubtful 0 b n)
 
-    last_wanted : All (λ c. Wanted wrong b n c.place c) at_last
+    last_wanted : AllByRecursion (λ c. Wanted wrong b n c.place c) at_last
     last_wanted = all_map (WantedFrom wrong last (drop last b) (drop last n)) (λ c. Wanted wrong b n c.place c) (λ c w. wanted_drop wrong last b n w.0 c.place c w.1 w.2) at_last (all_wanted wrong last (drop last b) (drop last n))
 
-    others_wanted : All (λ c. Wanted wrong b n c.place c × (c.place < last)) at_others
+    others_wanted : AllByRecursion (λ c. Wanted wrong b n c.place c × (c.place < last)) at_others
     others_wanted = all_map (WantedFrom wrong 0 (take last b) (take last n)) (λ c. Wanted wrong b n c.place c × (c.place < last)) one at_others (all_wanted wrong 0 (take last b) (take last n))
       where
         one : (c : Record) → WantedFrom wrong 0 (take last b) (take last n) c → Wanted wrong b n c.place c × (c.place < last)
         one c w = wanted_take wrong last b n c.place c (wanted_drop wrong 0 (take last b) (take last n) w.0 c.place c w.1 w.2)
 
-    wrongs_wanted : All (λ c. Wanted wrong b n c.place c) (at_last ++ at_others)
+    wrongs_wanted : AllByRecursion (λ c. Wanted wrong b n c.place c) (at_last ++ at_others)
     wrongs_wanted = all_append (λ c. Wanted wrong b n c.place c) at_last at_others last_wanted
         (all_map (λ c. Wanted wrong b n c.place c × (c.place < last)) (λ c. Wanted wrong b n c.place c) (λ c w. w.0) at_others others_wanted)
 
-    doubts_doubted : All (λ c. doubted_at c.place b ≡ true) at_doubts
+    doubts_doubted : AllByRecursion (λ c. doubted_at c.place b ≡ true) at_doubts
     doubts_doubted = all_map (λ c. Wanted doubtful b n c.place c) (λ c. doubted_at c.place b ≡ true) (λ c w. wanted_doubtful b n c.place c w) at_doubts doubts_wanted
 
-    wrongs_undoubted : All (λ c. doubted_at c.place b ≡ false) (at_last ++ at_others)
+    wrongs_undoubted : AllByRecursion (λ c. doubted_at c.place b ≡ false) (at_last ++ at_others)
     wrongs_undoubted = all_map (λ c. Wanted wrong b n c.place c) (λ c. doubted_at c.place b ≡ false) (λ c w. wanted_wrong b n c.place c w) (at_last ++ at_others) wrongs_wanted
 
     -- what follows of both kinds of changes follows of all
-    all_changes : (P : Record → Type 0) → ((c : Record) → Wanted doubtful b n c.place c → P c) → ((c : Record) → Wanted wrong b n c.place c → P c) → All P (changes C b n)
+    all_changes : (P : Record → Type 0) → ((c : Record) → Wanted doubtful b n c.place c → P c) → ((c : Record) → Wanted wrong b n c.place c → P c) → AllByRecursion P (changes C b n)
     all_changes P f g = all_append P at_doubts (at_last ++ at_others)
         (all_map (λ c. Wanted doubtful b n c.place c) P f at_doubts doubts_wanted) (all_map (λ c. Wanted wrong b n c.place c) P g (at_last ++ at_others) wrongs_wanted)
 
@@ -315,7 +312,7 @@ module _ (C : Rows) where
   same_symbol : Lawful C → (x y : ℕ) → x < C.size → y < C.size → C.less x y ≡ C.nothing → x ≡ y
   same_symbol law x y hx hy e = sym (law.less_back x x hx hx) ∙ (ap (C.less x) (law.less_itself x ∙ sym e) ∙ law.less_back x y hx hy)
 
-  wanted_changed : Lawful C → (b : Book) (n : List ℕ) (j : ℕ) (c : Record) → All (λ v. v < C.size) (row b) → All (λ v. v < C.size) n → Wanted wrong b n j c → ¬ (c.change ≡ C.nothing)
+  wanted_changed : Lawful C → (b : Book) (n : List ℕ) (j : ℕ) (c : Record) → AllByRecursion (λ v. v < C.size) (row b) → AllByRecursion (λ v. v < C.size) n → Wanted wrong b n j c → ¬ (c.change ≡ C.nothing)
   wanted_changed law [] n j c s t w e = absurd w
   wanted_changed law (a ∷ b) [] j c s t w e = absurd w
   wanted_changed law (a ∷ b) (v ∷ n) zero c s t w e = by a.doubted (ℕ_discrete a.symbol v) w.0 (same_symbol law a.symbol v s.0 t.0 (sym w.1 ∙ e))
@@ -337,7 +334,7 @@ module _ (C : Rows) where
   mem_front (c ∷ cs) ds here = here
   mem_front (c ∷ cs) ds (there m) = there (mem_front cs ds m)
 
-  pub changes_fit : Lawful C → (b : Book) (n : List ℕ) → All (λ v. v < C.size) (row b) → Near C b n → Fits C b (changes C b n)
+  pub changes_fit : Lawful C → (b : Book) (n : List ℕ) → AllByRecursion (λ v. v < C.size) (row b) → Near C b n → Fits C b (changes C b n)
   changes_fit law b n below near =
       let symbols = law.symbols n near.sound in
       record {
@@ -348,6 +345,6 @@ module _ (C : Rows) where
         changed = all_changes b n (λ c. doubted_at c.place b ≡ false → ¬ (c.change ≡ C.nothing))
             (λ c w q. absurd (both_ways (doubted_at c.place b) q (wanted_doubtful b n c.place c w)))
             (λ c w q. wanted_changed law b n c.place c below symbols w);
-        within = let few = elsewhere_changes b n in let close = near.close in let doubted = doubts_places b in omega (arith, few, close, doubted);
+        within = let few = elsewhere_changes b n in let close = near.close in omega (arith, few, close);
         sound = subst (λ m. C.sound m ≡ true) (sym (changes_subtracted C law b n below near)) near.sound;
       }

@@ -9,12 +9,11 @@ use Rattle.book.specs.Promise.{Refused, Workable, Solved, Settled, Gives, GivesO
 use Rattle.book.specs.SlipFaults as slip
 use Rattle.book.specs.declared.record.Record.{Record}
 use Rattle.book.specs.declared.slip_fault.SlipFault.TheVariants.{Absent}
-use Rattle.book.proofs.Doubts.{doubts_places}
 use Rattle.book.proofs.Same.{same, within, workable}
 
 gives : (C : Rows) → Lawful C → (b : Book) (n : List ℕ) (r w : ℕ) → Workable C r w b → Near C b n → Gives C r w b n
 gives C law b n r w f x =
-    let open-to = workable C r w b f (omega (arith, x.close, doubts_places b)) in
+    let open-to = workable C r w b f (omega (arith, x.close)) in
     record {
       solved = λ a next s. same law s (solves (one_near open-to x));
       settled = λ a next s. same law s (settles (one_near open-to x));

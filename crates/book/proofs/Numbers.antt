@@ -3,6 +3,7 @@
 --   rows_lawful   what is asked of a code's rows holds of every lawful code
 --   near_elements a row near by numbers is near by elements
 --   rows_sealed   the seal of a row, by numbers
+use Rattle.std.specs.List.{AllByRecursion}
 use Rattle.std.proofs.Common.{◌≡◌, ℕ, ◌<◌, ◌≤◌, true, not, ◌&&◌, ltb, List, [], ◌∷◌, ◌++◌, map, length, sym, refl, ap, ◌∙◌, ap₂, arith}
 use native.Mathlib.Decide.{ℕ_discrete}
 use lib.ListN.{length-map}
@@ -13,7 +14,6 @@ use Rattle.algebra.specs.Code.{Code, bound, checks, residue, seal}
 use Rattle.algebra.specs.Field.{FieldOn, Lifts, Numbers}
 use Rattle.algebra.specs.Rows as rows
 use Rattle.algebra.specs.Rows.{count, differing, doubted_places, other, refuted, symbols, wrong_places}
-use Rattle.algebra.specs.Series.{All}
 use Rattle.algebra.proofs.Distance.{few_differ}
 use Rattle.algebra.proofs.Members.{all_append, all_right}
 use Rattle.algebra.proofs.Sealing.{length_seal, seal_only, sealed_sound}
@@ -21,11 +21,11 @@ use Rattle.algebra.proofs.Solver.{◌:-◌, v0, v1, solve}
 use Rattle.book.specs.Book.{Book, marks, row}
 use Rattle.book.specs.Codes.{Lawful, Near, Seals, Sound, alike, all_below, rows_of}
 
-pub all_below_all : (size : ℕ) (n : List ℕ) → all_below size n ≡ true → All (λ v. v < size) n
+pub all_below_all : (size : ℕ) (n : List ℕ) → all_below size n ≡ true → AllByRecursion (λ v. v < size) n
 all_below_all size [] h = tt
 all_below_all size (v ∷ n) h = let both = and_parts (ltb v size) (all_below size n) h in (ltb-true v size both.0, all_below_all size n both.1)
 
-all_all_below : (size : ℕ) (n : List ℕ) → All (λ v. v < size) n → all_below size n ≡ true
+all_all_below : (size : ℕ) (n : List ℕ) → AllByRecursion (λ v. v < size) n → all_below size n ≡ true
 all_all_below size [] h = refl
 all_all_below size (v ∷ n) h = and_from (ltb v size) (all_below size n) (lt-ltb v size h.0) (all_all_below size n h.1)
 
@@ -61,7 +61,7 @@ module _ {S : Type 0} (N : Numbers S) where
   elements n = map N.element n
 
   abbrev pub Below : List ℕ → Type 0
-  Below n = All (λ v. v < N.size) n
+  Below n = AllByRecursion (λ v. v < N.size) n
 
   abbrev pub in_elements : Book → rows.Book S
   in_elements b = map (λ a. record { symbol = N.element a.symbol; doubted = a.doubted }) b

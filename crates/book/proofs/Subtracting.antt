@@ -1,10 +1,10 @@
 -- Subtracting the listed changes from a book's row leaves the row that they lead to. Assumes nothing.
+use Rattle.std.specs.List.{AllByRecursion}
 use Rattle.std.proofs.Common.{◌≡◌, ℕ, zero, suc, ◌+◌, ◌-◌, ◌<◌, Bool, true, false, cond, not, ◌&&◌, List, [], ◌∷◌, ◌++◌, length, get_or, take, drop, set, sym, refl, ap, ◌∙◌, ap₂, append_assoc, append-nil, arith}
 use native.Mathlib.Decide.{ℕ_discrete}
 use Rattle.std.proofs.lemmas.List.{get_or_at, set_at, length-map, length_push, length-take-le, take-append-drop}
 use Rattle.std.proofs.lemmas.Bool.{both_ways}
 use Rattle.algebra.specs.Rows.{refuted}
-use Rattle.algebra.specs.Series.{All}
 use Rattle.book.specs.Book.{Place, Book, row}
 use Rattle.book.specs.Codes.{Rows, Lawful, Near}
 use Rattle.book.specs.Mending.{doubtful, wrong, changes_at, changes, subtracted}
@@ -97,7 +97,7 @@ module _ (C : Rows) where
   Backed (a ∷ b) [] = Unit {0}
   Backed (a ∷ b) (v ∷ n) = (C.less a.symbol (C.less a.symbol v) ≡ v) × Backed b n
 
-  backed_symbols : Lawful C → (b : Book) (n : List ℕ) → All (λ v. v < C.size) (row b) → All (λ v. v < C.size) n → Backed b n
+  backed_symbols : Lawful C → (b : Book) (n : List ℕ) → AllByRecursion (λ v. v < C.size) (row b) → AllByRecursion (λ v. v < C.size) n → Backed b n
   backed_symbols law [] n s t = tt
   backed_symbols law (a ∷ b) [] s t = tt
   backed_symbols law (a ∷ b) (v ∷ n) s t = (law.less_back a.symbol v s.0 t.0, backed_symbols law b n s.1 t.1)
@@ -166,5 +166,5 @@ module _ (C : Rows) where
       ∙ (ap (subtracted C (changes_at wrong C 0 (take k b) (take k n))) two
       ∙ (three ∙ (mixed_split wrong k b n m ∙ all_mixed b n l)))))
 
-  pub changes_subtracted : Lawful C → (b : Book) (n : List ℕ) → All (λ v. v < C.size) (row b) → Near C b n → subtracted C (changes C b n) (row b) ≡ n
+  pub changes_subtracted : Lawful C → (b : Book) (n : List ℕ) → AllByRecursion (λ v. v < C.size) (row b) → Near C b n → subtracted C (changes C b n) (row b) ≡ n
   changes_subtracted law b n below near = changes_make b n near.same_length (backed_symbols law b n below (law.symbols n near.sound))

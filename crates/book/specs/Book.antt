@@ -5,7 +5,7 @@
 --   write, blank, doubt   the book after each call, or why the call is refused
 --   answer, after  what a call answers, and the book that it leaves: a refusal changes nothing
 --   symbol_at, doubted_at, doubts   what is read from a book
-use Rattle.std.specs.Prelude.{ℕ, zero, suc, Bool, true, false, cond, List, [], ◌∷◌, ◌++◌, map, length, Ok, Err, Option, Result, count_by, nat_le, nat_lt, slice_index_or}
+use Rattle.std.specs.Prelude.{ℕ, zero, suc, Bool, true, false, cond, List, [], ◌∷◌, ◌++◌, map, length, Ok, Err, Option, Result, nat_le, nat_lt, slice_index_or}
 use Rattle.std.specs.List.{slice_get}
 use Rattle.algebra.specs.Rows as rows
 use Rattle.book.specs.declared.slip_fault.SlipFault.{SlipFault}
@@ -24,10 +24,10 @@ abbrev pub unsure : ℕ → Place
 unsure v = record { symbol = v; doubted = true }
 
 abbrev pub row : Book → List ℕ
-row b = map (λ p. p.symbol) b
+row = rows.symbols
 
 abbrev pub marks : Book → List Bool
-marks b = map (λ p. p.doubted) b
+marks = rows.doubted_places
 
 abbrev pub fresh : Book
 fresh = []
@@ -42,9 +42,7 @@ blank b = cond (nat_le 89 (length b)) (Err Full) (Ok (b ++ unsure 0 ∷ []))
 
 -- the book with a place doubted
 abbrev pub mark : ℕ → Book → Book
-mark place [] = []
-mark zero (p ∷ b) = unsure p.symbol ∷ b
-mark (suc place) (p ∷ b) = p ∷ mark place b
+mark = rows.mark
 
 abbrev pub doubt : ℕ → Book → Result Book SlipFault
 doubt place b = cond (nat_le (length b) place) (Err (Absent place)) (Ok (mark place b))
@@ -63,9 +61,5 @@ symbol_at place b = slice_get (row b) place
 abbrev pub doubted_at : ℕ → Book → Bool
 doubted_at place b = slice_index_or (marks b) place false
 
--- how many are true
-abbrev pub trues : List Bool → ℕ
-trues flags = count_by (λ flag. flag) flags
-
 abbrev pub doubts : Book → ℕ
-doubts b = trues (marks b)
+doubts = rows.doubts

@@ -4,13 +4,13 @@
 --   Seals    check symbols that make a row sound
 --   Lawful   what holds of every code that keeps the laws of codes
 --   rows_of  a code over a field, by the numbers of its symbols
+use Rattle.std.specs.List.{AllByRecursion}
 use Rattle.std.specs.Prelude.{◌≡◌, ℕ, ◌<◌, ◌≤◌, Bool, true, false, not, ◌&&◌, List, [], ◌∷◌, ◌++◌, map, length, nat_lt}
 use Rattle.std.proofs.Math.Decide.{ℕ_discrete}
 use Rattle.algebra.specs.Code as code
 use Rattle.algebra.specs.Code.{Code, residue}
 use Rattle.algebra.specs.Field.{FieldOn, Numbers}
 use Rattle.algebra.specs.Rows.{NearBy, differ, other}
-use Rattle.algebra.specs.Series.{All}
 use Rattle.book.specs.Book.{Book}
 
 pub record Rows : Type 0 where
@@ -47,7 +47,7 @@ pub record Lawful (C : Rows) : Type 0 where
   pub apart : (v w : List ℕ) → Sound C v → Sound C w → length v ≡ length w → length v ≤ C.limit → differ ℕ_discrete v w ≤ C.bound → v ≡ w
   -- a row can be sealed in one way only
   pub one_seal : (row cs ds : List ℕ) → Seals C row cs → Seals C row ds → cs ≡ ds
-  pub symbols : (n : List ℕ) → Sound C n → All (λ v. v < C.size) n
+  pub symbols : (n : List ℕ) → Sound C n → AllByRecursion (λ v. v < C.size) n
   pub less_below : (x y : ℕ) → C.less x y < C.size
   -- a symbol less its change is the symbol that was meant
   pub less_back : (x y : ℕ) → x < C.size → y < C.size → C.less x (C.less x y) ≡ y

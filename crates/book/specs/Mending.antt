@@ -3,10 +3,11 @@
 --   nonzero     how many of them change something
 --   subtracted  a row after changes were taken off
 --   Fits        a list of records is a pattern that fits within the bound, whoever proposed it
+use Rattle.std.specs.List.{AllByRecursion}
 use Rattle.std.specs.Prelude.{◌≡◌, ℕ, ◌+◌, ◌-◌, ◌*◌, ◌<◌, ◌≤◌, Bool, true, false, cond, not, List, [], ◌∷◌, ◌++◌, count_by, map, length, take, drop, ◌==◌, slice_index, slice_set}
 use Rattle.std.proofs.Math.Decide.{ℕ_discrete}
 use Rattle.algebra.specs.Rows as rows
-use Rattle.algebra.specs.Series.{All, Mem}
+use Rattle.algebra.specs.Series.{Mem}
 use Rattle.book.specs.Book.{Place, Book, row, doubts, doubted_at}
 use Rattle.book.specs.Codes.{Rows, Sound}
 use Rattle.book.specs.declared.record.Record.{Record}
@@ -43,7 +44,7 @@ subtracted C (c ∷ cs) vs = subtracted C cs (slice_set vs c.place (C.less (slic
 -- no number stands twice in a list
 abbrev pub Different : List ℕ → Type 0
 Different [] = Unit {0}
-Different (p ∷ ps) = All (λ q. ¬ (p ≡ q)) ps × Different ps
+Different (p ∷ ps) = AllByRecursion (λ q. ¬ (p ≡ q)) ps × Different ps
 
 abbrev pub places : List Record → List ℕ
 places cs = map (λ c. c.place) cs
@@ -54,10 +55,10 @@ elsewhere b cs = count_by (λ c. not (doubted_at c.place b)) cs
 
 pub record Fits (C : Rows) (b : Book) (cs : List Record) : Type 0 where
   pub distinct : Different (places cs)
-  pub on_slip : All (λ p. p < length b) (places cs)
-  pub symbols : All (λ c. c.change < C.size) cs
+  pub on_slip : AllByRecursion (λ p. p < length b) (places cs)
+  pub symbols : AllByRecursion (λ c. c.change < C.size) cs
   -- each doubted place has its change, and each change at another place changes something
   pub doubted : (p : ℕ) → doubted_at p b ≡ true → Mem p (places cs)
-  pub changed : All (λ c. doubted_at c.place b ≡ false → ¬ (c.change ≡ C.nothing)) cs
+  pub changed : AllByRecursion (λ c. doubted_at c.place b ≡ false → ¬ (c.change ≡ C.nothing)) cs
   pub within : 2 * elsewhere b cs + doubts b ≤ C.bound
   pub sound : Sound C (subtracted C cs (row b))

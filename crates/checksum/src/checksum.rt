@@ -23,11 +23,11 @@ pub trait Checksum {
 
     /// The coefficient of a power of x in the generator polynomial: ONE at k, ZERO above it.
     fn generator(power: usize) -> Self::SymbolField
-        ensures { result ≡ coeff Self.SymbolField.Field.field (generator Self.SymbolField.Field.field code) power };
+        ensures { result ≡ coeff Self.SymbolField.field (generator Self.SymbolField.field code) power };
 
     /// The coefficient of a power of x in the residue of a sound row: ZERO from k on.
     fn target_residue(power: usize) -> Self::SymbolField
-        ensures { result ≡ coeff Self.SymbolField.Field.field code.target power };
+        ensures { result ≡ coeff Self.SymbolField.field code.target power };
 
     /// The element whose powers are roots of the generator polynomial.
     fn root_generator() -> Self::CorrectionField
@@ -43,14 +43,14 @@ pub trait Checksum {
 
     /// What makes the code lawful. Generic code calls this to have the laws at hand.
     fn laws()
-        ensures alphabet { Self.SymbolField.Field.numbers.size ≡ 32 }
-        ensures lawful { Lawful Self.SymbolField.Field.field Self.CorrectionField.Field.field Self.CorrectionField.ExtensionField.lifted code };
+        ensures alphabet { Self.SymbolField.numbers.size ≡ 32 }
+        ensures lawful { Lawful Self.SymbolField.field Self.CorrectionField.field Self.CorrectionField.lifted code };
 }
 
 /// The bound: as many consecutive roots as there are. A row can be mended where twice its errors and its doubted places
 /// together are at most this.
 pub fn bound<C: Checksum>() -> usize
-    ensures { result ≡ bound C.Checksum.code }
+    ensures { result ≡ bound C.code }
 {
     C::laws();
     let (first, last) = C::root_exponents();

@@ -21,7 +21,7 @@ pub struct Engine<C: Checksum> {
 impl<C: Checksum> Model for Engine<C> {
     ghost Value = { List C.SymbolField };
 
-    ghost view = { λ e. take (checks C.Checksum.code) e.entries };
+    ghost view = { λ e. take (checks C.code) e.entries };
 
     ghost invariant = { λ e. length e.entries ≡ 16 };
 }
@@ -29,7 +29,7 @@ impl<C: Checksum> Model for Engine<C> {
 impl<C: Checksum> Engine<C> {
     /// The engine before the first symbol: the polynomial 1.
     pub fn new() -> Self
-        ensures { result ≡ one C.SymbolField.Field.field (checks C.Checksum.code) }
+        ensures { result ≡ one C.SymbolField.field (checks C.code) }
     {
         C::laws();
         let mut entries = [C::SymbolField::zero(); 16];
@@ -39,7 +39,7 @@ impl<C: Checksum> Engine<C> {
 
     /// One symbol more: residue × x + symbol, modulo the generator polynomial.
     pub fn input_fe(&mut self, symbol: C::SymbolField)
-        ensures { self.new ≡ modulo C.SymbolField.Field.field C.Checksum.code.lower (symbol ∷ self.old) }
+        ensures { self.new ≡ modulo C.SymbolField.field C.code.lower (symbol ∷ self.old) }
     {
         C::laws();
         let residue = &mut self.entries[..C::checksum_length()];
@@ -53,7 +53,7 @@ impl<C: Checksum> Engine<C> {
 
     /// The symbols of a row, from its front.
     pub fn input_row(&mut self, row: &[C::SymbolField])
-        ensures { self.new ≡ residue_from C.SymbolField.Field.field C.Checksum.code.lower self.old row.now }
+        ensures { self.new ≡ residue_from C.SymbolField.field C.code.lower self.old row.now }
     {
         for symbol in row {
             self.input_fe(*symbol);
@@ -64,8 +64,8 @@ impl<C: Checksum> Engine<C> {
     /// leading 1 and the row's symbols make, highest power first.
     #[tactic(auto, using(algebra::proofs::Remainder::residue_remainder))]
     pub fn of_row(row: &[C::SymbolField]) -> Self
-        ensures residue { result ≡ residue C.SymbolField.Field.field C.Checksum.code row.now }
-        ensures remainder { Remainder C.SymbolField.Field.field C.Checksum.code.lower (reverse (C.SymbolField.Field.field.𝟙 ∷ row.now)) result }
+        ensures residue { result ≡ residue C.SymbolField.field C.code row.now }
+        ensures remainder { Remainder C.SymbolField.field C.code.lower (reverse (C.SymbolField.field.𝟙 ∷ row.now)) result }
     {
         C::laws();
         let mut engine = Self::new();
@@ -76,7 +76,7 @@ impl<C: Checksum> Engine<C> {
     /// The residue's coefficients, lowest power first.
     pub fn residue(&self) -> &[C::SymbolField]
         ensures coefficients { result.now ≡ self.now }
-        ensures as_many { length result.now ≡ checks C.Checksum.code }
+        ensures as_many { length result.now ≡ checks C.code }
     {
         C::laws();
         &self.entries[..C::checksum_length()]
@@ -84,7 +84,7 @@ impl<C: Checksum> Engine<C> {
 
     /// Whether the residue is the code's target.
     pub fn meets_target(&self) -> bool
-        ensures { Decides result (self.now ≡ C.Checksum.code.target) }
+        ensures { Decides result (self.now ≡ C.code.target) }
     {
         C::laws();
         let mut coefficients = self.residue().iter().enumerate();
@@ -92,7 +92,7 @@ impl<C: Checksum> Engine<C> {
     }
 
     fn input_zeros(&mut self)
-        ensures { self.new ≡ residue_from C.SymbolField.Field.field C.Checksum.code.lower self.old (replicate (checks C.Checksum.code) C.SymbolField.Field.field.𝟘) }
+        ensures { self.new ≡ residue_from C.SymbolField.field C.code.lower self.old (replicate (checks C.code) C.SymbolField.field.𝟘) }
     {
         for _ in 0..C::checksum_length() {
             self.input_fe(C::SymbolField::zero());
@@ -101,7 +101,7 @@ impl<C: Checksum> Engine<C> {
 
     // What the residue lacks to the target, highest power first.
     fn missing(self) -> CheckSymbols<C>
-        ensures { result ≡ reverse (poly_sub C.SymbolField.Field.field C.Checksum.code.target self) }
+        ensures { result ≡ reverse (poly_sub C.SymbolField.field C.code.target self) }
     {
         C::laws();
         let mut entries = self.entries;
@@ -115,7 +115,7 @@ impl<C: Checksum> Engine<C> {
 
     /// The k symbols that take the residue to the target, in the order of writing.
     pub fn closing(mut self) -> CheckSymbols<C>
-        ensures { result ≡ closing C.SymbolField.Field.field C.Checksum.code self }
+        ensures { result ≡ closing C.SymbolField.field C.code self }
     {
         self.input_zeros();
         self.missing()
@@ -133,7 +133,7 @@ pub struct CheckSymbols<C: Checksum> {
 impl<C: Checksum> Model for CheckSymbols<C> {
     ghost Value = { List C.SymbolField };
 
-    ghost view = { λ s. take (checks C.Checksum.code) s.symbols };
+    ghost view = { λ s. take (checks C.code) s.symbols };
 
     ghost invariant = { λ s. length s.symbols ≡ 16 };
 }
@@ -141,7 +141,7 @@ impl<C: Checksum> Model for CheckSymbols<C> {
 impl<C: Checksum> CheckSymbols<C> {
     pub fn symbols(&self) -> &[C::SymbolField]
         ensures symbols { result.now ≡ self.now }
-        ensures as_many { length result.now ≡ checks C.Checksum.code }
+        ensures as_many { length result.now ≡ checks C.code }
     {
         C::laws();
         &self.symbols[..C::checksum_length()]
@@ -151,7 +151,7 @@ impl<C: Checksum> CheckSymbols<C> {
 /// Whether a row is sound.
 #[tactic(auto, using(crate::proofs::Sizes::engine_fits))]
 pub fn is_sound<C: Checksum>(row: &[C::SymbolField]) -> bool
-    ensures { Decides result (Sound C.SymbolField.Field.field C.Checksum.code row.now) }
+    ensures { Decides result (Sound C.SymbolField.field C.code row.now) }
 {
     C::SymbolField::small();
     Engine::<C>::of_row(row).meets_target()
@@ -159,8 +159,8 @@ pub fn is_sound<C: Checksum>(row: &[C::SymbolField]) -> bool
 
 /// Seal: the k check symbols that make the row sound. No other k symbols do.
 pub fn seal<C: Checksum>(row: &[C::SymbolField]) -> CheckSymbols<C>
-    ensures checks { result ≡ seal C.SymbolField.Field.field C.Checksum.code row.now }
-    ensures seals { Seals C.SymbolField.Field.field C.Checksum.code row.now result }
+    ensures checks { result ≡ seal C.SymbolField.field C.code row.now }
+    ensures seals { Seals C.SymbolField.field C.code row.now result }
 {
     C::laws();
     C::SymbolField::small();

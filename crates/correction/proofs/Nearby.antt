@@ -1,4 +1,5 @@
 -- Where a row is near, what is proposed is the changes from it. Assumes nothing.
+use Rattle.std.specs.List.{AllByRecursion}
 use Rattle.std.proofs.Common.{◌≡◌, ℕ, ◌≤◌, List, ◌++◌, map, length, Some, Option, sym, refl, ap, ◌∙◌, subst, arith}
 use Rattle.std.proofs.lemmas.List.{length-append, length-map}
 use Rattle.algebra.specs.Code.{Code, Lawful, bound}
@@ -7,7 +8,7 @@ use Rattle.algebra.specs.Field.{FieldOn, Lifts, Numbers, Units, Cyclic, HasOrder
 use Rattle.algebra.specs.Poly.{coeff, tab}
 use Rattle.algebra.specs.Rows as rows
 use Rattle.algebra.specs.Rows.{positions, syndrome, symbols, change, locator_of, doubted_positions, found_locator}
-use Rattle.algebra.specs.Series.{All, deriv}
+use Rattle.algebra.specs.Series.{deriv}
 use Rattle.algebra.proofs.Flags.{length_positions}
 use Rattle.algebra.proofs.Generators.{pow_order}
 use Rattle.algebra.proofs.Members.{all_map}
@@ -96,7 +97,7 @@ module _ {S E : Type 0} (N : Numbers S) (s : FieldOn S) (e : FieldOn E) (up : S 
           doubted = all_map (Right N s e up C b n) (λ p. Told e up N list (marks b) C.root C.first p (Y p)) told (positions (marks b))
               (doubted_right N s e up L C lawful b n below short near);
           errors = all_map (Right N s e up C b n) (λ p. OnRow (length (marks b)) (Told e up N list (marks b) C.root C.first) p (Y p)) on_row qs
-              (subst (All (Right N s e up C b n)) (sym found_is) (roots_right N s e up L C lawful b n below short near ord order.2));
+              (subst (AllByRecursion (Right N s e up C b n)) (sym found_is) (roots_right N s e up L C lawful b n below short near ord order.2));
           few = omega arith;
           within = omega (arith, close.close);
         }

@@ -1,10 +1,10 @@
 -- Listing records, position by position. Assumes nothing.
 --   Onward   records hs, with those of ps to come, are what the first ones are with those of all positions
+use Rattle.std.specs.List.{AllByRecursion}
 use Rattle.std.proofs.Common.{◌≡◌, ℕ, ◌+◌, ◌-◌, ◌<◌, ◌≤◌, Bool, true, false, List, [], ◌∷◌, ◌++◌, map, length, get_or, drop, Some, None, Option, sym, refl, ap, ◌∙◌, subst, append_assoc, append-nil, arith}
 use Rattle.std.proofs.lemmas.List.{at_drop_more, length-append, length-drop, length-map}
 use Rattle.std.proofs.lemmas.Option.{none-some}
 use Rattle.algebra.specs.Rows.{positions}
-use Rattle.algebra.specs.Series.{All}
 use Rattle.book.specs.declared.record.Record.{Record}
 use Rattle.correction.specs.Listing.{record_of, Added, Listable, Lists}
 use Rattle.book.specs.Patterns.{Pushed}
@@ -43,7 +43,7 @@ module _ {Change : ℕ → ℕ → Type 0} (n : ℕ) {all : List ℕ} {before : 
 
 -- one list of positions after another, from none on
 pub both_listed : (Change Change' : ℕ → ℕ → Type 0) (n : ℕ) (ps qs : List ℕ) (between after : List Record) (r t : Option (Unit {0})) (Y : ℕ → ℕ)
-    → Lists Change n ps [] r between → Lists Change' n qs between t after → All (λ p. Change p (Y p)) ps → All (λ p. Change' p (Y p)) qs → length ps + length qs ≤ 16
+    → Lists Change n ps [] r between → Lists Change' n qs between t after → AllByRecursion (λ p. Change p (Y p)) ps → AllByRecursion (λ p. Change' p (Y p)) qs → length ps + length qs ≤ 16
     → (r ≡ Some tt) × (t ≡ Some tt) × (after ≡ map (record_of n Y) ps ++ map (record_of n Y) qs)
 both_listed Change Change' n ps qs between after r t Y first second h k room =
     let one = first Y record { changes = h; room = omega arith } in

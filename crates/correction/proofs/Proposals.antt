@@ -2,13 +2,14 @@
 --   refused_doubts, refused_errors   where all changes are told, neither of the two tests stops the search
 --   refused_erasures, refused_rest   nor is a record refused
 --   all_proposed                     the records are the doubted places' and then the errors'
+use Rattle.std.specs.List.{AllByRecursion}
 use Rattle.std.proofs.Common.{◌≡◌, ℕ, ◌+◌, ◌-◌, ◌*◌, ◌<◌, Bool, List, [], ◌++◌, map, length, Some, None, Option, sym, ap, ◌∙◌, subst, ap₂, arith}
 use Rattle.std.proofs.lemmas.Option.{none-some}
 use Rattle.algebra.specs.Decode.{errata_locator, errata_evaluator, root_position}
 use Rattle.algebra.specs.Field.{FieldOn, Numbers, HasOrder, pow}
 use Rattle.algebra.specs.Poly.{coeff, eval}
 use Rattle.algebra.specs.Rows.{count, positions}
-use Rattle.algebra.specs.Series.{All, deriv}
+use Rattle.algebra.specs.Series.{deriv}
 use Rattle.algebra.proofs.Flags.{length_positions}
 use Rattle.algebra.proofs.Members.{all_map}
 use Rattle.book.specs.declared.pattern.Pattern.{Pattern}
@@ -57,7 +58,7 @@ module _ {E S : Type 0} {F : FieldOn E} {up : S → E} {N : Numbers S} where
         change : (p : ℕ) → Told F up N s marks a first p (Y p) → Valued F up N W D a first p (Y p)
         change p = valued_same W _ D _ a first p (Y p) ew ed
 
-        doubted : All (λ p. Valued F up N W D a first p (Y p)) (positions marks)
+        doubted : AllByRecursion (λ p. Valued F up N W D a first p (Y p)) (positions marks)
         doubted = all_map (λ p. Told F up N s marks a first p (Y p)) (λ p. Valued F up N W D a first p (Y p)) change (positions marks) complete.doubted
 
         all_listed : {errors : List E} {after : List Record} {t : Option (Unit {0})} → errors ≡ located F up N s marks a first

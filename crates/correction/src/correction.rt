@@ -23,8 +23,8 @@ use slip::slip::Slip;
 /// none is, they may be anything, so a proposal is to be checked. The working list has 12 × (bound + 2) entries at least: it is
 /// cut into parts from its front, which are lent on, and is all ZERO after. Nothing is proposed where it is shorter.
 pub fn bch_errors<C: Checksum>(slip: &Slip, work: &mut [C::CorrectionField]) -> Option<Pattern>
-    ensures proposes { Proposes (rows_of C.SymbolField.Field.numbers C.SymbolField.Field.field C.Checksum.code) slip.now (length work.old) result }
-    ensures after { work.new ≡ worked C.CorrectionField.Field.field (bound C.Checksum.code) work.old }
+    ensures proposes { Proposes (rows_of C.SymbolField.numbers C.SymbolField.field C.code) slip.now (length work.old) result }
+    ensures after { work.new ≡ worked C.CorrectionField.field (bound C.code) work.old }
 {
     C::laws();
     C::CorrectionField::lift_laws();
@@ -45,9 +45,9 @@ fn propose<C: Checksum>(
     s: &[C::CorrectionField],
     work: &mut [C::CorrectionField],
 ) -> Option<Pattern>
-    requires syndromes { length s.now ≡ bound C.Checksum.code }
+    requires syndromes { length s.now ≡ bound C.code }
     requires room { 8 * (length s.now + 2) ≤ length work.old }
-    ensures tells { Tells C.CorrectionField.Field.field C.CorrectionField.ExtensionField.lifted C.SymbolField.Field.numbers s.now (marks slip.now) C.Checksum.code.root C.Checksum.code.first result }
+    ensures tells { Tells C.CorrectionField.field C.CorrectionField.lifted C.SymbolField.numbers s.now (marks slip.now) C.code.root C.code.first result }
     ensures holdable { Holdable slip.now }
 {
     C::laws();

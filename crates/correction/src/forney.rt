@@ -17,9 +17,9 @@ pub(crate) struct Forney<'a, E: ExtensionField> {
     pub(crate) derivative: &'a [E],
     pub(crate) root: E,
     pub(crate) first: usize,
-    ghost nonzero: { root ≢ E.Field.field.𝟘 },
+    ghost nonzero: { root ≢ E.field.𝟘 },
     ghost some: { 0 < length evaluator.now },
-    ghost alphabet: { E.BaseField.Field.numbers.size ≡ 32 },
+    ghost alphabet: { E.BaseField.numbers.size ≡ 32 },
 }
 
 impl<E: ExtensionField> Forney<'_, E> {
@@ -33,8 +33,8 @@ impl<E: ExtensionField> Forney<'_, E> {
     //
     // where first is the first exponent of the generator's roots.
     fn value(&self, x: E) -> Option<E>
-        requires { x ≢ E.Field.field.𝟘 }
-        ensures { (eval E.Field.field self.now.derivative.now (E.Field.field.inv x) ≢ E.Field.field.𝟘) → result ≡ Some (forney E.Field.field self.now.evaluator.now self.now.derivative.now x self.now.first) }
+        requires { x ≢ E.field.𝟘 }
+        ensures { (eval E.field self.now.derivative.now (E.field.inv x) ≢ E.field.𝟘) → result ≡ Some (forney E.field self.now.evaluator.now self.now.derivative.now x self.now.first) }
     {
         let back = x.multiplicative_inverse().unwrap();
         let value = evaluate(self.evaluator, back).unwrap();

@@ -62,7 +62,7 @@ pub(crate) fn list_errors<E: ExtensionField>(
     pattern: &mut Pattern,
 ) -> Option<()>
     requires { 0 < length locator.now }
-    ensures { (ord : ℕ) → HasOrder E.Field.field forney.now.root ord → Lists (OnRow len (ChangeAt forney.now)) len (map (root_position ord) (root_indices E.Field.field locator.now forney.now.root ord)) pattern.old result pattern.new }
+    ensures { (ord : ℕ) → HasOrder E.field forney.now.root ord → Lists (OnRow len (ChangeAt forney.now)) len (map (root_position ord) (root_indices E.field locator.now forney.now.root ord)) pattern.old result pattern.new }
 {
     let order = multiplicative_order(forney.root).unwrap();
     let mut roots = find_nonzero_distinct_roots(forney.root).unwrap();

@@ -18,7 +18,7 @@ use slip::slip::Slip;
 // The values of a list at consecutive powers of an element, from an exponent on.
 fn values_at_powers<E: ExtensionField>(list: &[E::BaseField], a: E, first: usize, out: &mut [E])
     requires { 0 < length list.now }
-    ensures { out.new ≡ tab (length out.old) (λ j. eval E.Field.field (map E.lifted list.now) (pow E.Field.field a (first + j))) }
+    ensures { out.new ≡ tab (length out.old) (λ j. eval E.field (map E.lifted list.now) (pow E.field a (first + j))) }
 {
     let mut power = powers(a).nth(first);
     for value in out.iter_mut() {
@@ -29,8 +29,8 @@ fn values_at_powers<E: ExtensionField>(list: &[E::BaseField], a: E, first: usize
 
 // Takes the target's coefficients off a residue's.
 fn subtract_target<C: Checksum>(residue: &mut [C::SymbolField])
-    requires { length residue.old ≡ checks C.Checksum.code }
-    ensures { residue.new ≡ poly_sub C.SymbolField.Field.field residue.old C.Checksum.code.target }
+    requires { length residue.old ≡ checks C.code }
+    ensures { residue.new ≡ poly_sub C.SymbolField.field residue.old C.code.target }
 {
     C::laws();
     for (power, coefficient) in residue.iter_mut().enumerate() {
@@ -41,8 +41,8 @@ fn subtract_target<C: Checksum>(residue: &mut [C::SymbolField])
 // The syndromes of a slip's row, as many as the bound.
 #[tactic(auto, using(checksum::proofs::Sizes::engine_fits))]
 pub(crate) fn syndromes<C: Checksum>(slip: &Slip, out: &mut [C::CorrectionField])
-    requires { length out.old ≡ bound C.Checksum.code }
-    ensures { out.new ≡ tab (bound C.Checksum.code) (syndrome C.SymbolField.Field.field C.CorrectionField.Field.field C.CorrectionField.ExtensionField.lifted C.Checksum.code (elements C.SymbolField.Field.numbers (row slip.now))) }
+    requires { length out.old ≡ bound C.code }
+    ensures { out.new ≡ tab (bound C.code) (syndrome C.SymbolField.field C.CorrectionField.field C.CorrectionField.lifted C.code (elements C.SymbolField.numbers (row slip.now))) }
 {
     C::laws();
     C::SymbolField::small();

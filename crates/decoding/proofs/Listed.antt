@@ -3,6 +3,7 @@
 --   record_at       the record of a position: its place, and the number of the change there
 --   Right           a position that decoding answers rightly
 --   listed_changes  the records of all positions are the changes to the near row
+use Rattle.std.specs.List.{AllByRecursion}
 use Rattle.std.proofs.Common.{◌≡◌, ℕ, zero, suc, ◌+◌, ◌-◌, ◌<◌, ◌≤◌, Bool, true, false, cond, List, [], ◌∷◌, ◌++◌, map, length, get_or, take, drop, Some, Option, sym, refl, ap, ◌∙◌, subst, ap₂, arith}
 use native.Mathlib.Decide.{ℕ_discrete}
 use lib.ListN.{length-map}
@@ -13,7 +14,7 @@ use Rattle.algebra.specs.Field.{Drops, FieldOn, HasOrder, Lifts, Numbers}
 use Rattle.algebra.specs.Poly.{coeff}
 use Rattle.algebra.specs.Rows as rows
 use Rattle.algebra.specs.Rows.{change, doubted_places, doubted_positions, error_positions, found_change, found_locator, found_slope, positions, wrong_places}
-use Rattle.algebra.specs.Series.{All, Mem}
+use Rattle.algebra.specs.Series.{Mem}
 use Rattle.algebra.proofs.Changes.{length_wrong}
 use Rattle.algebra.proofs.Flags.{positions_below}
 use Rattle.algebra.proofs.Members.{all_append, all_at, all_from, all_left, all_right}
@@ -208,22 +209,22 @@ module _ {S E : Type 0} (N : Numbers S) (s : FieldOn S) (e : FieldOn E) (up : S 
         drops = found.drops p m;
       }
 
-  rights : All (Right N s e up C b n) (error_positions s e up C b_s n_s ++ doubted_positions s e up C b_s)
+  rights : AllByRecursion (Right N s e up C b n) (error_positions s e up C b_s n_s ++ doubted_positions s e up C b_s)
   rights = all_from (Right N s e up C b n) (error_positions s e up C b_s n_s ++ doubted_positions s e up C b_s) right
 
-  pub doubted_right : All (Right N s e up C b n) (positions (marks b))
-  doubted_right = subst (λ fs. All (Right N s e up C b n) (positions fs)) (marks_elements N b)
+  pub doubted_right : AllByRecursion (Right N s e up C b n) (positions (marks b))
+  doubted_right = subst (λ fs. AllByRecursion (Right N s e up C b n) (positions fs)) (marks_elements N b)
       (all_right (Right N s e up C b n) (error_positions s e up C b_s n_s) (doubted_positions s e up C b_s) rights)
 
   module _ (ord : ℕ) (o : HasOrder e C.root ord) where
     roots_are : root_list N s e up C b ord ≡ zero_first (error_positions s e up C b_s n_s)
     roots_are = near_root_positions s e up L C lawful ord o b_s n_s short_s close
 
-    pub roots_right : All (Right N s e up C b n) (root_list N s e up C b ord)
+    pub roots_right : AllByRecursion (Right N s e up C b n) (root_list N s e up C b ord)
     roots_right =
         let errs = error_positions s e up C b_s n_s in
         let R = Right N s e up C b n in
-        subst (All R) (sym roots_are) (all_zero_first R errs (all_left R errs (doubted_positions s e up C b_s) rights))
+        subst (AllByRecursion R) (sym roots_are) (all_zero_first R errs (all_left R errs (doubted_positions s e up C b_s) rights))
 
     -- the records of the doubted positions and then of the roots
     pub listed_changes : map (record_at N s e up C b n) (positions (marks b)) ++ map (record_at N s e up C b n) (root_list N s e up C b ord) ≡ changes (rows_of N s C) b n

@@ -2,6 +2,7 @@
 -- position 0, and from then on positions fall. Assumes nothing.
 --   Falls m ps        each position is below the one before it, the first below m
 --   zero_first ps     position 0 first, if it is listed, then the others in their order
+use Rattle.std.specs.List.{AllByRecursion}
 use Rattle.std.proofs.Common.{◌≡◌, ℕ, zero, suc, ◌+◌, ◌-◌, ◌<◌, ◌≤◌, Bool, true, false, ◌⊎◌, List, [], ◌∷◌, ◌++◌, map, length, take, drop, sym, refl, ap, ◌∙◌, subst, ap₂, inl, inr, arith}
 use Rattle.std.proofs.lemmas.List.{length-append, length-take-le}
 use Rattle.std.proofs.lemmas.Bool.{cases_lt}
@@ -10,7 +11,7 @@ use Rattle.algebra.specs.Decode.{root_position}
 use Rattle.algebra.specs.Field.{FieldOn, HasOrder, Lifts, pow}
 use Rattle.algebra.specs.Poly.{eval}
 use Rattle.algebra.specs.Rows.{Book, Near, error_positions, found_locator, IsRoot, positions, wrong_places}
-use Rattle.algebra.specs.Series.{All, Mem, here, there}
+use Rattle.algebra.specs.Series.{Mem, here, there}
 use Rattle.algebra.proofs.Changes.{length_wrong}
 use Rattle.algebra.proofs.Chien.{root_is_inverse}
 use Rattle.algebra.proofs.Flags.{positions_below}
@@ -93,7 +94,7 @@ others_listed (zero ∷ ps) m = there (others_listed ps m)
 others_listed (suc p ∷ ps) here = here
 others_listed (suc p ∷ ps) (there m) = there (others_listed ps m)
 
-others_positive : (ps : List ℕ) → All (λ q. 0 < q) (others ps)
+others_positive : (ps : List ℕ) → AllByRecursion (λ q. 0 < q) (others ps)
 others_positive [] = tt
 others_positive (zero ∷ ps) = others_positive ps
 others_positive (suc p ∷ ps) = (omega arith, others_positive ps)
@@ -105,15 +106,15 @@ listed_others (zero ∷ ps) h (there m) = listed_others ps h m
 listed_others (suc p ∷ ps) h here = here
 listed_others (suc p ∷ ps) h (there m) = there (listed_others ps h m)
 
-pub all_zero_first : (P : ℕ → Type 0) (ps : List ℕ) → All P ps → All P (zero_first ps)
+pub all_zero_first : (P : ℕ → Type 0) (ps : List ℕ) → AllByRecursion P ps → AllByRecursion P (zero_first ps)
 all_zero_first P ps h = all_append P (zeros ps) (others ps) (in_zeros ps h) (in_others ps h)
   where
-    in_zeros : (ps : List ℕ) → All P ps → All P (zeros ps)
+    in_zeros : (ps : List ℕ) → AllByRecursion P ps → AllByRecursion P (zeros ps)
     in_zeros [] h = tt
     in_zeros (zero ∷ ps) h = (h.0, in_zeros ps h.1)
     in_zeros (suc p ∷ ps) h = in_zeros ps h.1
 
-    in_others : (ps : List ℕ) → All P ps → All P (others ps)
+    in_others : (ps : List ℕ) → AllByRecursion P ps → AllByRecursion P (others ps)
     in_others [] h = tt
     in_others (zero ∷ ps) h = in_others ps h.1
     in_others (suc p ∷ ps) h = (h.0, in_others ps h.1)
@@ -140,7 +141,7 @@ zeros_none (suc p ∷ ps) h = zeros_none ps (λ m. h (there m))
 -- ps lists the positions from 1 to k at which R holds
 record Lists (R : ℕ → Type 0) (k : ℕ) (ps : List ℕ) : Type 0 where
   falls : Falls (suc k) ps
-  positive : All (λ q. 0 < q) ps
+  positive : AllByRecursion (λ q. 0 < q) ps
   holds : (q : ℕ) → Mem q ps → R q
   no_other : (q : ℕ) → 0 < q → q < suc k → R q → Mem q ps
 
@@ -245,7 +246,7 @@ module _ {S E : Type 0} (s : FieldOn S) (e : FieldOn E) (up : S → E) (L : Lift
       by (inr h) = h
 
   module _ (b : Book S) (n : List S) (short : length b ≤ C.limit) (near : Near s C b n) where
-    below : All (λ q. q < C.limit) (error_positions s e up C b n)
+    below : AllByRecursion (λ q. q < C.limit) (error_positions s e up C b n)
     below = let l = length_wrong s b n near.same_length in positions_below (wrong_places s.discrete b n) C.limit (omega arith)
 
     no_root_past : (q : ℕ) → q < ord → C.limit ≤ q → ¬ IsRoot s e up C b q

@@ -11,7 +11,7 @@ use field::field::ExtensionField;
 /// At each root of the generator polynomial, the residue of a row less the target is the value of the row's changes from
 /// any sound row of its length.
 pub fn syndromes_stand<C: Checksum>()
-    ensures { SyndromesOfChanges C.SymbolField.Field.field C.CorrectionField.Field.field C.CorrectionField.ExtensionField.lifted C.Checksum.code }
+    ensures { SyndromesOfChanges C.SymbolField.field C.CorrectionField.field C.CorrectionField.lifted C.code }
 {
     C::laws();
     C::CorrectionField::lift_laws();
@@ -19,7 +19,7 @@ pub fn syndromes_stand<C: Checksum>()
 
 /// Two different sound rows of one length within the limit differ in at least bound + 1 places.
 pub fn distance_stands<C: Checksum>()
-    ensures { Distance C.SymbolField.Field.field C.CorrectionField.Field.field C.CorrectionField.ExtensionField.lifted C.Checksum.code }
+    ensures { Distance C.SymbolField.field C.CorrectionField.field C.CorrectionField.lifted C.code }
 {
     C::laws();
     C::CorrectionField::lift_laws();
@@ -27,7 +27,7 @@ pub fn distance_stands<C: Checksum>()
 
 /// Within the limit at most one sound row is so near that twice the errors and the doubted places are within the bound.
 pub fn one_near_stands<C: Checksum>()
-    ensures { OneNear C.SymbolField.Field.field C.CorrectionField.Field.field C.CorrectionField.ExtensionField.lifted C.Checksum.code }
+    ensures { OneNear C.SymbolField.field C.CorrectionField.field C.CorrectionField.lifted C.code }
 {
     C::laws();
     C::CorrectionField::lift_laws();
@@ -35,7 +35,7 @@ pub fn one_near_stands<C: Checksum>()
 
 /// Where one more place is doubted, no other row than before is near.
 pub fn one_more_doubt_stands<C: Checksum>()
-    ensures { OneMoreDoubt C.SymbolField.Field.field C.CorrectionField.Field.field C.CorrectionField.ExtensionField.lifted C.Checksum.code }
+    ensures { OneMoreDoubt C.SymbolField.field C.CorrectionField.field C.CorrectionField.lifted C.code }
 {
     C::laws();
     C::CorrectionField::lift_laws();
@@ -43,7 +43,7 @@ pub fn one_more_doubt_stands<C: Checksum>()
 
 /// Where a row is near, the register's connection list, its roots and Forney's values are that row's errors and changes.
 pub fn mending_stands<C: Checksum>()
-    ensures { Mends C.SymbolField.Field.field C.CorrectionField.Field.field C.CorrectionField.ExtensionField.lifted C.Checksum.code }
+    ensures { Mends C.SymbolField.field C.CorrectionField.field C.CorrectionField.lifted C.code }
 {
     C::laws();
     C::CorrectionField::lift_laws();

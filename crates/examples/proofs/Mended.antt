@@ -1,11 +1,12 @@
 -- The examples of mending stand. Assumes nothing.
+use Rattle.std.specs.List.{AllByRecursion}
 use Rattle.std.proofs.Common.{◌≡◌, ℕ, ◌+◌, ◌<◌, ◌≤◌, List, [], ◌∷◌, map, length, None, sym, refl, ap, ◌∙◌, subst, ap₂, arith, lit≤}
 use native.Mathlib.Decide.{dec_le, dec_lt, ℕ_discrete}
 use Rattle.algebra.specs.Field.{Lifts, pow}
 use Rattle.algebra.specs.Poly.{eval}
 use Rattle.algebra.specs.Rows as rows
 use Rattle.algebra.specs.Rows.{found_locator, error_positions, wrong_places}
-use Rattle.algebra.specs.Series.{All, Mem, here}
+use Rattle.algebra.specs.Series.{Mem, here}
 use Rattle.algebra.proofs.Flags.{length_positions}
 use Rattle.algebra.proofs.Laws.{add_zero, mul_zero}
 use Rattle.algebra.proofs.Mended.{mends}
@@ -73,7 +74,7 @@ never_zero x e =
     ap (λ t. gf32.add gf32.𝟙 (gf32.mul x t)) (gf32.zero_add (gf32.mul x gf32.𝟘) ∙ mul_zero gf32 x) ∙ ap (gf32.add gf32.𝟙) (mul_zero gf32 x) ∙ add_zero gf32 gf32.𝟙 in
     gf32.one_ne_zero (sym value ∙ ap (λ p. eval gf32 p x) (sym (located_is ∙ ones)) ∙ e)
 
-small : All (λ v. v < gf32_numbers.size) (row unsound)
+small : AllByRecursion (λ v. v < gf32_numbers.size) (row unsound)
 unfolding gf32_numbers
 small = all_below_all 32 (row unsound) refl
 

@@ -1,6 +1,6 @@
 -- Worked examples of mending by the finish code: books, and what solve answers to each. Assumes nothing.
+use Rattle.std.specs.List.{AllByRecursion}
 use Rattle.std.specs.Prelude.{◌≡◌, ℕ, List, [], ◌∷◌, ◌++◌, map}
-use Rattle.algebra.specs.Series.{All}
 use Rattle.book.specs.Book.{Book, sure, unsure, mark}
 use Rattle.book.specs.Calls.{Answer, Follows, solve, refused, listed}
 use Rattle.book.specs.CodeFaults.{told}
@@ -48,4 +48,4 @@ examples =
     ∷ []
 
 abbrev pub Mended : Type 0
-Mended = All Solves examples
+Mended = AllByRecursion Solves examples

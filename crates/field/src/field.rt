@@ -85,5 +85,5 @@ pub trait ExtensionField: Field {
 
     /// Lifting keeps sums and products, and no two elements lift to one.
     fn lift_laws()
-        ensures { Lifts Self.BaseField.Field.field Self.Field.field lifted };
+        ensures { Lifts Self.BaseField.field Self.field lifted };
 }

@@ -1,8 +1,6 @@
 -- GF(32768) over the struct itself, as triples over GF(32) with ζ³ = 1 + ζ. Assumes nothing.
 --   gf32768           its operations with their laws
 --   fe32768_decides   a test of the three parts tells whether two elements are one
---   gf32768_add       the sum is that of triples
---   gf32768_mul       the product is that of triples
 --   gf32768_numbers   c0 + c1 ζ + c2 ζ² has the number c0 + 32 c1 + 1024 c2
 --   gf32768_units     a generator of the elements but ZERO
 --   lift32768         where an element of GF(32) stands in it
@@ -10,7 +8,7 @@ use Rattle.std.specs.Prelude.{◌≡◌, ℕ, ◌+◌, ◌*◌, ◌/◌, ◌%◌
 use Rattle.std.proofs.Common.{ap, ◌∙◌, arith, lit<, lit≤}
 use Rattle.std.proofs.lemmas.Bool.Decides.{Decides-and, Decides-like}
 use Rattle.algebra.specs.Field.{FieldOn, Numbers, Units}
-use Rattle.algebra.specs.Triple.{Triple, plus, times}
+use Rattle.algebra.specs.Triple.{Triple, each, plus, times, inverse}
 use Rattle.algebra.proofs.Cubic.{cubic}
 use Rattle.algebra.proofs.Carried.{carried}
 use Rattle.gf32.specs.Gf32.{gf32, gf32_numbers, fe, fe_decides}
@@ -33,16 +31,32 @@ fe32768_decides x y =
     let parts = Decides-and _ _ (fe_decides x.c0 y.c0) upper in
     Decides-like _ (λ p. fe32768_path x y p.0 p.1.0 p.1.1) (λ e. (ap (λ z. z.c0) e, (ap (λ z. z.c1) e, ap (λ z. z.c2) e))) parts
 
+abbrev of_triple : Triple Fe32 → Fe32768
+of_triple t = fe32768 t.c0 t.c1 t.c2
+
 unfoldable pub gf32768 : FieldOn Fe32768
-gf32768 = carried (cubic gf32 no_cube) triple (λ t. fe32768 t.c0 t.c1 t.c2) (λ x. refl) (λ t. refl)
-
-pub gf32768_add : (x y : Fe32768) → triple (gf32768.add x y) ≡ plus gf32.add gf32.mul (triple x) (triple y)
-unfolding gf32768 carried cubic
-gf32768_add x y = refl
-
-pub gf32768_mul : (x y : Fe32768) → triple (gf32768.mul x y) ≡ times gf32.add gf32.mul (triple x) (triple y)
-unfolding gf32768 carried cubic
-gf32768_mul x y = refl
+unfolding carried cubic
+gf32768 =
+    let laws = carried (cubic gf32 no_cube) triple of_triple (λ x. refl) (λ t. refl) in
+    record {
+      𝟘 = fe32768 gf32.𝟘 gf32.𝟘 gf32.𝟘;
+      𝟙 = fe32768 gf32.𝟙 gf32.𝟘 gf32.𝟘;
+      add = λ x y. of_triple (plus gf32.add gf32.mul (triple x) (triple y));
+      mul = λ x y. of_triple (times gf32.add gf32.mul (triple x) (triple y));
+      neg = λ x. of_triple (each gf32.neg (triple x));
+      inv = λ x. of_triple (inverse gf32 (triple x) (gf32.discrete x.c2 gf32.𝟘));
+      discrete = laws.discrete;
+      add_assoc = laws.add_assoc;
+      add_comm = laws.add_comm;
+      zero_add = laws.zero_add;
+      add_neg = laws.add_neg;
+      mul_assoc = laws.mul_assoc;
+      mul_comm = laws.mul_comm;
+      one_mul = laws.one_mul;
+      mul_add = laws.mul_add;
+      mul_inv = laws.mul_inv;
+      one_ne_zero = laws.one_ne_zero;
+    }
 
 unfoldable pub gf32768_numbers : Numbers Fe32768
 unfolding gf32_numbers

@@ -1,8 +1,6 @@
 -- GF(1024) over the struct itself, as pairs over GF(32) with ζ² = 1 + ζ. Assumes nothing.
 --   gf1024           its operations with their laws
 --   fe1024_decides   a test of both parts tells whether two elements are one
---   gf1024_add       the sum is that of pairs
---   gf1024_mul       the product is that of pairs
 --   gf1024_numbers   c0 + c1 ζ has the number c0 + 32 c1
 --   gf1024_units     a generator of the elements but ZERO
 --   lift1024         where an element of GF(32) stands in it
@@ -10,7 +8,7 @@ use Rattle.std.specs.Prelude.{◌≡◌, ◌+◌, ◌*◌, ◌/◌, ◌%◌, ◌
 use Rattle.std.proofs.Common.{ap, ap₂, ◌∙◌, arith, lit<, lit≤}
 use Rattle.std.proofs.lemmas.Bool.Decides.{Decides-and, Decides-like}
 use Rattle.algebra.specs.Field.{FieldOn, Numbers, Units}
-use Rattle.algebra.specs.Pair.{Pair, plus, times}
+use Rattle.algebra.specs.Pair.{Pair, both, plus, times, quotient}
 use Rattle.algebra.proofs.Quadratic.{quadratic}
 use Rattle.algebra.proofs.Carried.{carried}
 use Rattle.gf32.specs.Gf32.{gf32, gf32_numbers, fe, fe_decides}
@@ -29,16 +27,32 @@ fe1024_decides x y =
     let parts = Decides-and _ _ (fe_decides x.c0 y.c0) (fe_decides x.c1 y.c1) in
     Decides-like _ (λ p. ap₂ fe1024 p.0 p.1) (λ e. (ap (λ z. z.c0) e, ap (λ z. z.c1) e)) parts
 
+abbrev of_pair : Pair Fe32 → Fe1024
+of_pair p = fe1024 p.c0 p.c1
+
 unfoldable pub gf1024 : FieldOn Fe1024
-gf1024 = carried (quadratic gf32 gf32.𝟙 gf32.𝟙 no_square) pair (λ p. fe1024 p.c0 p.c1) (λ x. refl) (λ p. refl)
-
-pub gf1024_add : (x y : Fe1024) → pair (gf1024.add x y) ≡ plus gf32.add gf32.mul (pair x) (pair y)
-unfolding gf1024 carried quadratic
-gf1024_add x y = refl
-
-pub gf1024_mul : (x y : Fe1024) → pair (gf1024.mul x y) ≡ times gf32.add gf32.mul gf32.𝟙 gf32.𝟙 (pair x) (pair y)
-unfolding gf1024 carried quadratic
-gf1024_mul x y = refl
+unfolding carried quadratic
+gf1024 =
+    let laws = carried (quadratic gf32 gf32.𝟙 gf32.𝟙 no_square) pair of_pair (λ x. refl) (λ p. refl) in
+    record {
+      𝟘 = fe1024 gf32.𝟘 gf32.𝟘;
+      𝟙 = fe1024 gf32.𝟙 gf32.𝟘;
+      add = λ x y. of_pair (plus gf32.add gf32.mul (pair x) (pair y));
+      mul = λ x y. of_pair (times gf32.add gf32.mul gf32.𝟙 gf32.𝟙 (pair x) (pair y));
+      neg = λ x. of_pair (both gf32.neg (pair x));
+      inv = λ x. of_pair (quotient gf32 gf32.𝟙 gf32.𝟙 (pair x));
+      discrete = laws.discrete;
+      add_assoc = laws.add_assoc;
+      add_comm = laws.add_comm;
+      zero_add = laws.zero_add;
+      add_neg = laws.add_neg;
+      mul_assoc = laws.mul_assoc;
+      mul_comm = laws.mul_comm;
+      one_mul = laws.one_mul;
+      mul_add = laws.mul_add;
+      mul_inv = laws.mul_inv;
+      one_ne_zero = laws.one_ne_zero;
+    }
 
 unfoldable pub gf1024_numbers : Numbers Fe1024
 unfolding gf32_numbers

@@ -1,11 +1,11 @@
 -- From a proposal and what the checker says of it to the answers of solve and settle. Assumes nothing.
+use Rattle.std.specs.List.{AllByRecursion}
 use Rattle.std.proofs.Common.{◌≡◌, ℕ, ◌+◌, ◌*◌, ◌<◌, ◌≤◌, Bool, true, false, cond, eqb, ltb, leb, Decides, List, [], ◌∷◌, ◌++◌, count_by, map, length, not, take, drop, Some, None, Ok, Option, sym, refl, ap, ◌∙◌, subst, arith}
 use Rattle.std.proofs.lemmas.List.{take_at}
 use Rattle.std.proofs.lemmas.Bool.Decides.{nat_tests, not_from_Decides}
 use Rattle.std.specs.Option.{MatchOption, ok_or}
 use Rattle.std.specs.Bool.{then_some}
 use Rattle.algebra.specs.Field.{FieldOn, Numbers}
-use Rattle.algebra.specs.Series.{All}
 use Rattle.book.specs.Book.{Book, row, sure}
 use Rattle.book.specs.Calls.{Follows, Mends, listed, lists, none_near, one_near, refused, settle, settles, solve, solves, unmendable}
 use Rattle.book.specs.CodeFaults.{told}
@@ -36,9 +36,9 @@ module _ (C : Rows) (r w : ℕ) (b : Book) where
     working = grind (arith, nat_tests);
   }
 
-  module _ (law : Lawful C) (below : All (λ v. v < 32) (row b)) (none : unmendable C r w b ≡ None) where
-    symbols : All (λ v. v < C.size) (row b)
-    symbols = subst (λ (k : ℕ). All (λ v. v < k) (row b)) (sym law.alphabet) below
+  module _ (law : Lawful C) (below : AllByRecursion (λ v. v < 32) (row b)) (none : unmendable C r w b ≡ None) where
+    symbols : AllByRecursion (λ v. v < C.size) (row b)
+    symbols = subst (λ (k : ℕ). AllByRecursion (λ v. v < k) (row b)) (sym law.alphabet) below
 
     pub found : (p : Pattern) → Proposes C b w (Some p) → Fits C b p → Found C r w b (Ok p)
     found p proposes fits =
@@ -55,7 +55,7 @@ module _ (C : Rows) (r w : ℕ) (b : Book) where
           near = near;
           listed = listed;
           subtracts = refl;
-          symbols = subst (λ (k : ℕ). All (λ c. c.change < k) p) law.alphabet fits.symbols;
+          symbols = subst (λ (k : ℕ). AllByRecursion (λ c. c.change < k) p) law.alphabet fits.symbols;
           room = omega (arith, few, long, can.room);
         }
 

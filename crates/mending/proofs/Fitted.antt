@@ -1,9 +1,10 @@
 -- What the checker finds out is that a pattern fits. Assumes nothing.
+use Rattle.std.specs.List.{AllByRecursion}
 use Rattle.std.proofs.Common.{◌≡◌, ℕ, ◌<◌, Bool, false, List, [], ◌∷◌, map, length, Decides, sym, refl, ap, ◌∙◌, subst}
 use Rattle.std.specs.List as std
 use Rattle.algebra.specs.Code.{Code, residue}
 use Rattle.algebra.specs.Field.{FieldOn, Numbers}
-use Rattle.algebra.specs.Series.{All, Mem}
+use Rattle.algebra.specs.Series.{Mem}
 use Rattle.algebra.proofs.Members.{all_at, all_from, all_map}
 use Rattle.book.specs.Book.{Book, doubted_at, row, sure}
 use Rattle.book.specs.Codes.{Rows, Sound, rows_of}
@@ -18,7 +19,7 @@ use Rattle.book.proofs.Rows.{row_sure}
 use Rattle.mending.proofs.Lessening.{at_each}
 
 module _ (b : Book) (nothing : ℕ) where
-  all_admitted : (cs : List Record) → Sensible b nothing cs → All (Admits b nothing) cs
+  all_admitted : (cs : List Record) → Sensible b nothing cs → AllByRecursion (Admits b nothing) cs
   all_admitted [] s = tt
   all_admitted (c ∷ cs) s = (s.0, all_admitted cs s.2)
 
@@ -26,11 +27,11 @@ module _ (b : Book) (nothing : ℕ) where
   different [] s = tt
   different (c ∷ cs) s = (all_from (λ q. ¬ (c.place ≡ q)) (places cs) (λ q m e. s.1 (subst (λ p. Mem p (places cs)) (sym e) m)), different cs s.2)
 
-  sensible : (cs : List Record) → Different (places cs) → All (Admits b nothing) cs → Sensible b nothing cs
+  sensible : (cs : List Record) → Different (places cs) → AllByRecursion (Admits b nothing) cs → Sensible b nothing cs
   sensible [] d a = tt
   sensible (c ∷ cs) d a = (a.0, λ m. all_at (λ q. ¬ (c.place ≡ q)) (places cs) d.0 m refl, sensible cs d.1 a.1)
 
-  changes : (cs : List Record) → Sensible b nothing cs → All (λ c. c.change < 32) cs
+  changes : (cs : List Record) → Sensible b nothing cs → AllByRecursion (λ c. c.change < 32) cs
   changes cs s = all_map (Admits b nothing) (λ c. c.change < 32) (λ c a. a.symbol) cs (all_admitted cs s)
 
   pub sensible_changes : (cs : List Record) → Sensible b nothing cs → std.All (λ c. c.change < 32) cs
@@ -43,7 +44,7 @@ module _ (C : Rows) (alphabet : C.size ≡ 32) (b : Book) (cs : List Record) whe
       record {
         distinct = different b C.nothing cs f.sensible;
         on_slip = all_places (λ p. p < length b) cs (all_map (Admits b C.nothing) (λ c. c.place < length b) (λ c a. a.on_slip) cs admitted);
-        symbols = subst (λ (n : ℕ). All (λ c. c.change < n) cs) (sym alphabet) (changes b C.nothing cs f.sensible);
+        symbols = subst (λ (n : ℕ). AllByRecursion (λ c. c.change < n) cs) (sym alphabet) (changes b C.nothing cs f.sensible);
         doubted = f.covers;
         changed = all_map (Admits b C.nothing) (λ c. doubted_at c.place b ≡ false → ¬ (c.change ≡ C.nothing)) (λ c a. a.changed) cs admitted;
         within = f.within;
@@ -57,7 +58,7 @@ module _ (C : Rows) (alphabet : C.size ≡ 32) (b : Book) (cs : List Record) whe
     within = f.within;
   }
     where
-      admitted : (ds : List Record) → All (λ p. p < length b) (places ds) → All (λ c. c.change < C.size) ds → All (λ c. doubted_at c.place b ≡ false → ¬ (c.change ≡ C.nothing)) ds → All (Admits b C.nothing) ds
+      admitted : (ds : List Record) → AllByRecursion (λ p. p < length b) (places ds) → AllByRecursion (λ c. c.change < C.size) ds → AllByRecursion (λ c. doubted_at c.place b ≡ false → ¬ (c.change ≡ C.nothing)) ds → AllByRecursion (Admits b C.nothing) ds
       admitted [] x y z = tt
       admitted (d ∷ ds) x y z = (record { on_slip = x.0; symbol = subst (λ (n : ℕ). d.change < n) alphabet y.0; changed = z.0 }, admitted ds x.1 y.1 z.1)
 
@@ -75,5 +76,5 @@ module _ {S E : Type 0} (N : Numbers S) (F : FieldOn S) (C : Code S E) (alphabet
       let n = subtracted rows cs (row b) in
       let same : row m ≡ n = ap row is_m ∙ row_sure n in
       let is-residue : held ≡ residue F C (map N.element n) = is_held ∙ ap (λ (vs : List ℕ). residue F C (map N.element vs)) same in
-      let low : All (λ v. v < N.size) n = subst (All (λ v. v < N.size)) same (row_below N.size alphabet m holdable) in
+      let low : AllByRecursion (λ v. v < N.size) n = subst (AllByRecursion (λ v. v < N.size)) same (row_below N.size alphabet m holdable) in
       (λ q. formed_fits rows alphabet b cs formed (elements_sound N F C n low (sym is-residue ∙ d.0 q)), λ f. d.1 (is-residue ∙ sound_elements N F C n f.sound))

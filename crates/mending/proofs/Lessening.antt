@@ -2,7 +2,7 @@
 use Rattle.std.proofs.Common.{◌≡◌, ℕ, ◌+◌, ◌<◌, ◌≤◌, All, List, [], ◌∷◌, map, length, get_or, drop, set, sym, refl, ap, ◌∙◌, subst, arith}
 use Rattle.std.proofs.lemmas.List.Elements.{All-cons, All-nil}
 use Rattle.std.proofs.lemmas.List.{at_drop_more, length-map, set_past}
-use Rattle.algebra.specs.Series as series
+use Rattle.std.specs.List.{AllByRecursion}
 use Rattle.book.specs.Book.{sure}
 use Rattle.book.specs.Codes.{Rows}
 use Rattle.book.specs.Mending.{subtracted}
@@ -25,7 +25,7 @@ module _ (C : Rows) (rs : List Record) (i : ℕ) (vs : List ℕ) (whole : List �
       ap (subtracted C (drop (i + 1) rs)) (sym (set_past vs (get_or rs i blank).place x out)) ∙ subtract_more x refl
 
 -- from what holds by recursion to the same of each place
-pub at_each : {X : Type 0} (P : X → Type 0) (xs : List X) → series.All P xs → All P xs
+pub at_each : {X : Type 0} (P : X → Type 0) (xs : List X) → AllByRecursion P xs → All P xs
 at_each P [] h = All-nil P
 at_each P (x ∷ xs) h = All-cons P x xs h.0 (at_each P xs h.1)
 

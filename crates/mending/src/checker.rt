@@ -15,7 +15,7 @@ use slip::slip::Slip;
 /// Whether records are a pattern that fits the slip by a code.
 #[tactic(auto, using(checksum::proofs::Sizes::engine_fits))]
 pub fn fits<C: Checksum>(slip: &Slip, records: &[Record]) -> bool
-    ensures { Decides result (Fits (rows_of C.SymbolField.Field.numbers C.SymbolField.Field.field C.Checksum.code) slip.now records.now) }
+    ensures { Decides result (Fits (rows_of C.SymbolField.numbers C.SymbolField.field C.code) slip.now records.now) }
 {
     C::laws();
     C::SymbolField::small();
@@ -33,7 +33,7 @@ struct Proposal<'a> {
 impl Proposal<'_> {
     // Whether the records are a pattern within the bound, whatever row they lead to.
     fn is_formed<C: Checksum>(&self) -> bool
-        ensures { let C = rows_of C.SymbolField.Field.numbers C.SymbolField.Field.field C.Checksum.code in Decides result (Formed self.now.slip.now C.nothing C.bound self.now.records.now) }
+        ensures { let C = rows_of C.SymbolField.numbers C.SymbolField.field C.code in Decides result (Formed self.now.slip.now C.nothing C.bound self.now.records.now) }
     {
         C::laws();
         let bound = bound::<C>();

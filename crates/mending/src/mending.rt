@@ -27,9 +27,9 @@ pub fn solve<C: Checksum>(
     records: &mut [Record],
     work: &mut [C::CorrectionField],
 ) -> Result<(usize, usize), CodeFault>
-    ensures follows { Follows slip.now (solve (rows_of C.SymbolField.Field.numbers C.SymbolField.Field.field C.Checksum.code) (length records.old) (length work.old)) (told_list result records.new) slip.now }
+    ensures follows { Follows slip.now (solve (rows_of C.SymbolField.numbers C.SymbolField.field C.code) (length records.old) (length work.old)) (told_list result records.new) slip.now }
     ensures past { drop (written result) records.new ≡ drop (written result) records.old }
-    ensures working { work.new ≡ cleared C.CorrectionField.Field.field result work.old }
+    ensures working { work.new ≡ cleared C.CorrectionField.field result work.old }
 {
     let found = find::<C>(slip, records.len(), work)?;
     Ok(list::<C>(&found, records))
@@ -41,9 +41,9 @@ pub fn settle<C: Checksum>(
     records: &mut [Record],
     work: &mut [C::CorrectionField],
 ) -> Result<(usize, usize), CodeFault>
-    ensures follows { Follows slip.old (settle (rows_of C.SymbolField.Field.numbers C.SymbolField.Field.field C.Checksum.code) (length records.old) (length work.old)) (told_list result records.new) slip.new }
+    ensures follows { Follows slip.old (settle (rows_of C.SymbolField.numbers C.SymbolField.field C.code) (length records.old) (length work.old)) (told_list result records.new) slip.new }
     ensures past { drop (written result) records.new ≡ drop (written result) records.old }
-    ensures working { work.new ≡ cleared C.CorrectionField.Field.field result work.old }
+    ensures working { work.new ≡ cleared C.CorrectionField.field result work.old }
 {
     C::laws();
     let pattern = find::<C>(slip, records.len(), work)?;
@@ -58,8 +58,8 @@ fn find<C: Checksum>(
     records: usize,
     work: &mut [C::CorrectionField],
 ) -> Result<Pattern, CodeFault>
-    ensures found { Found (rows_of C.SymbolField.Field.numbers C.SymbolField.Field.field C.Checksum.code) records (length work.old) slip.now result }
-    ensures working { work.new ≡ cleared C.CorrectionField.Field.field result work.old }
+    ensures found { Found (rows_of C.SymbolField.numbers C.SymbolField.field C.code) records (length work.old) slip.now result }
+    ensures working { work.new ≡ cleared C.CorrectionField.field result work.old }
 {
     C::laws();
     C::CorrectionField::lift_laws();
@@ -71,7 +71,7 @@ fn find<C: Checksum>(
 
 // Whether a slip may be mended, whatever its symbols are, with lists of some lengths being lent, and if not, why.
 fn can_mend<C: Checksum>(slip: &Slip, records: usize, work: usize) -> Result<(), CodeFault>
-    ensures fault { result_err result ≡ unmendable (rows_of C.SymbolField.Field.numbers C.SymbolField.Field.field C.Checksum.code) records work slip.now }
+    ensures fault { result_err result ≡ unmendable (rows_of C.SymbolField.numbers C.SymbolField.field C.code) records work slip.now }
     ensures holdable { Holdable slip.now }
 {
     C::laws();
@@ -98,7 +98,7 @@ fn can_mend<C: Checksum>(slip: &Slip, records: usize, work: usize) -> Result<(),
 fn list<C: Checksum>(pattern: &Pattern, records: &mut [Record]) -> (usize, usize)
     requires { length pattern.now ≤ length records.old }
     ensures many { result.0 ≡ length pattern.now }
-    ensures changed { result.1 ≡ nonzero (rows_of C.SymbolField.Field.numbers C.SymbolField.Field.field C.Checksum.code) pattern.now }
+    ensures changed { result.1 ≡ nonzero (rows_of C.SymbolField.numbers C.SymbolField.field C.code) pattern.now }
     ensures listed { records.new ≡ pattern.now ++ drop (length pattern.now) records.old }
 {
     C::laws();

@@ -15,7 +15,7 @@ use slip::slip::Slip;
 // slip's.
 pub(crate) fn mended<C: Checksum>(slip: &Slip, records: &[Record]) -> Slip
     requires { All (λ c. c.change < 32) records.now }
-    ensures mended { result ≡ map sure (subtracted (rows_of C.SymbolField.Field.numbers C.SymbolField.Field.field C.Checksum.code) records.now (row slip.now)) }
+    ensures mended { result ≡ map sure (subtracted (rows_of C.SymbolField.numbers C.SymbolField.field C.code) records.now (row slip.now)) }
     ensures holdable { Holdable result }
 {
     let mut memory = [0; 89];
@@ -29,7 +29,7 @@ pub(crate) fn mended<C: Checksum>(slip: &Slip, records: &[Record]) -> Slip
 fn subtract<C: Checksum>(symbols: &mut [u8], records: &[Record])
     requires small { All (λ v. v < 32) symbols.old }
     requires changes { All (λ c. c.change < 32) records.now }
-    ensures subtracted { symbols.new ≡ subtracted (rows_of C.SymbolField.Field.numbers C.SymbolField.Field.field C.Checksum.code) records.now symbols.old }
+    ensures subtracted { symbols.new ≡ subtracted (rows_of C.SymbolField.numbers C.SymbolField.field C.code) records.now symbols.old }
     ensures below { All (λ v. v < 32) symbols.new }
 {
     for record in records {
@@ -56,7 +56,7 @@ fn undoubted(symbols: &[u8]) -> Slip
 fn less<C: Checksum>(x: u8, y: u8) -> u8
     requires left { x < 32 }
     requires right { y < 32 }
-    ensures less { result ≡ (rows_of C.SymbolField.Field.numbers C.SymbolField.Field.field C.Checksum.code).less x y }
+    ensures less { result ≡ (rows_of C.SymbolField.numbers C.SymbolField.field C.code).less x y }
     ensures below { result < 32 }
 {
     let x = element::<C>(x).unwrap();

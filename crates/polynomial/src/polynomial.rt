@@ -74,7 +74,7 @@ pub fn evaluate<F: Field>(list: &[F], x: F) -> Result<F, ListFault>
 
 /// The value of a list over the base at an element of the field above.
 pub fn evaluate_lifted<E: ExtensionField>(list: &[E::BaseField], x: E) -> Result<E, ListFault>
-    ensures { result ≡ asked (length list.now) (eval E.Field.field (map E.lifted list.now) x) }
+    ensures { result ≡ asked (length list.now) (eval E.field (map E.lifted list.now) x) }
 {
     not_empty(list)?;
     Ok(horner(list, x, |entry| E::lift(entry)))

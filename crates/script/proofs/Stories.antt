@@ -2,10 +2,10 @@
 --   stories_put, stories_past      the turn is answered on its slip, or names none
 --   stories_all, stories_fresh     where turns or replies are used up, and from fresh slips
 --   untouched_put, untouched_past  the replies that are as they were
+use Rattle.std.specs.List.{AllByRecursion}
 use Rattle.std.proofs.Common.{◌≡◌, ℕ, zero, suc, ◌+◌, ◌<◌, ◌≤◌, min, Bool, true, false, cond, eqb, List, [], ◌∷◌, ◌++◌, length, get_or, take, set, sym, refl, ap, ◌∙◌, subst, ap₂, append-nil, arith}
 use Rattle.std.proofs.lemmas.List.{take_more, length-take-le, get_or-set_same, get_or-set_other}
 use Rattle.std.proofs.lemmas.Bool.{eqb-true, eqb-false, ne_eqb}
-use Rattle.algebra.specs.Series.{All}
 use Rattle.book.specs.Book.{Book, fresh}
 use Rattle.book.specs.Calls.{Call, Answer, Follows}
 use Rattle.book.specs.Codes.{Rows}
@@ -109,7 +109,7 @@ pub stories_all : {K : Type 0} (rows : K → Rows) (before after : List Book) (t
 stories_all rows before after ts rs n h s i l = rw (← (calls_all rows i ts rs n h)) (s i l)
 
 -- each of some books that are fresh
-fresh_at : (books : List Book) → All (λ b. b ≡ fresh) books → (i : ℕ) → get_or books i fresh ≡ fresh
+fresh_at : (books : List Book) → AllByRecursion (λ b. b ≡ fresh) books → (i : ℕ) → get_or books i fresh ≡ fresh
 fresh_at [] h i = refl
 fresh_at (b ∷ books) h zero = h.0
 fresh_at (b ∷ books) h (suc i) = fresh_at books h.1 i

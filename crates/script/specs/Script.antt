@@ -7,8 +7,8 @@
 --   Decided        the book and the call decide the answer and the book after
 --   Untouched      where nothing was asked, a reply is as it was
 --   Few            a list of at most sixteen records
+use Rattle.std.specs.List.{AllByRecursion}
 use Rattle.std.specs.Prelude.{◌≡◌, ℕ, zero, suc, ◌<◌, ◌≤◌, cond, List, [], ◌∷◌, length, Ok, Err, Result, ◌==◌, slice_index_or}
-use Rattle.algebra.specs.Series.{All}
 use Rattle.book.specs.Book.{Book, fresh}
 use Rattle.book.specs.Calls as calls
 use Rattle.book.specs.Calls.{Call, Follows, write, blank, doubt, wipe, seal, solve, settle, done, refused, listed}
@@ -49,7 +49,7 @@ abbrev pub Stories : {K : Type 0} → (K → Rows) → List Book → List (Turn 
 Stories rows before ts rs after = (i : ℕ) → i < length before → Leads (slice_index_or before i fresh) (calls_on rows i ts rs) (slice_index_or after i fresh)
 
 abbrev pub FreshStories : {K : Type 0} → (K → Rows) → List Book → List (Turn K) → List Replied → List Book → Type 0
-FreshStories rows before ts rs after = All (λ b. b ≡ fresh) before → (i : ℕ) → i < length before → Story (calls_on rows i ts rs) (slice_index_or after i fresh)
+FreshStories rows before ts rs after = AllByRecursion (λ b. b ≡ fresh) before → (i : ℕ) → i < length before → Story (calls_on rows i ts rs) (slice_index_or after i fresh)
 
 abbrev pub Decided : {K : Type 0} → (K → Rows) → Type 0
 Decided {K} rows = (b : Book) (ask : Ask K) (a a' : calls.Answer) (next next' : Book)

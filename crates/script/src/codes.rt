@@ -64,9 +64,9 @@ pub trait CodeSet: Copy {
 impl<C: Checksum> CodeSet for One<C> {
     type Desk = Desk<C::CorrectionField>;
 
-    ghost rows = { λ _. rows_of C.SymbolField.Field.numbers C.SymbolField.Field.field C.Checksum.code };
+    ghost rows = { λ _. rows_of C.SymbolField.numbers C.SymbolField.field C.code };
 
-    ghost clear = { λ d. d.work ≡ replicate 216 C.CorrectionField.Field.field.𝟘 };
+    ghost clear = { λ d. d.work ≡ replicate 216 C.CorrectionField.field.𝟘 };
 
     fn laws() {
         C::laws();
@@ -114,9 +114,9 @@ impl<C: Checksum> CodeSet for One<C> {
 impl<A: CodeSet, B: CodeSet> CodeSet for Either<A, B> {
     type Desk = (A::Desk, B::Desk);
 
-    ghost rows = { either A.CodeSet.rows B.CodeSet.rows };
+    ghost rows = { either A.rows B.rows };
 
-    ghost clear = { λ d. A.CodeSet.clear d.0 × B.CodeSet.clear d.1 };
+    ghost clear = { λ d. A.clear d.0 × B.clear d.1 };
 
     fn laws() {
         A::laws();

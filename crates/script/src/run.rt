@@ -27,10 +27,10 @@ pub fn run<K: CodeSet>(
     replies: &mut [Reply],
     desk: &mut K::Desk,
 )
-    ensures stories { Stories K.CodeSet.rows slips.old turns.now replies.new slips.new }
-    ensures fresh { FreshStories K.CodeSet.rows slips.old turns.now replies.new slips.new }
-    ensures decided { Decided K.CodeSet.rows }
-    ensures promise { (k : K) → Promise (K.CodeSet.rows k) }
+    ensures stories { Stories K.rows slips.old turns.now replies.new slips.new }
+    ensures fresh { FreshStories K.rows slips.old turns.now replies.new slips.new }
+    ensures decided { Decided K.rows }
+    ensures promise { (k : K) → Promise (K.rows k) }
     ensures untouched { Untouched (length slips.old) turns.now replies.old replies.new }
 {
     K::laws();
@@ -46,7 +46,7 @@ pub fn run<K: CodeSet>(
 
 // Makes one call on a slip.
 fn answer<K: CodeSet>(slip: &mut Slip, ask: Ask<K>, desk: &mut K::Desk) -> Reply
-    ensures { Follows slip.old (asked K.CodeSet.rows ask) (heard result) slip.new }
+    ensures { Follows slip.old (asked K.rows ask) (heard result) slip.new }
 {
     match ask {
         Ask::Write(v) => slip.write(v)?,
@@ -62,7 +62,7 @@ fn answer<K: CodeSet>(slip: &mut Slip, ask: Ask<K>, desk: &mut K::Desk) -> Reply
 
 // A solve that is lent records in fixed memory: no code lists more than sixteen.
 fn solve_turn<K: CodeSet>(slip: &Slip, code: K, lent: Lent, desk: &mut K::Desk) -> Reply
-    ensures { Follows slip.now (solve (K.CodeSet.rows code) lent.records lent.working) (heard result) slip.now }
+    ensures { Follows slip.now (solve (K.rows code) lent.records lent.working) (heard result) slip.now }
 {
     K::laws();
     let mut records = [BLANK; 16];
@@ -74,7 +74,7 @@ fn solve_turn<K: CodeSet>(slip: &Slip, code: K, lent: Lent, desk: &mut K::Desk) 
 // The same of a settle. The two are not one function that takes the call as a closure: it would have to require of the call
 // that it lists no more than it is lent, and to tell what became of the slip that only one of them changes.
 fn settle_turn<K: CodeSet>(slip: &mut Slip, code: K, lent: Lent, desk: &mut K::Desk) -> Reply
-    ensures { Follows slip.old (settle (K.CodeSet.rows code) lent.records lent.working) (heard result) slip.new }
+    ensures { Follows slip.old (settle (K.rows code) lent.records lent.working) (heard result) slip.new }
 {
     K::laws();
     let mut records = [BLANK; 16];

@@ -1,18 +1,17 @@
 -- A line that is taken makes the calls that it stands for.
-use Rattle.std.proofs.Common.{◌≡◌, ℕ, ◌+◌, Bool, true, false, cond, eqb, List, [], ◌∷◌, ◌++◌, Some, None, Ok, Err, Option, Result, sym, refl, ap, ◌∙◌, append_assoc, arith}
-use Rattle.std.specs.List.{flat_map}
+use Rattle.std.proofs.Common.{◌≡◌, ℕ, ◌+◌, Bool, true, false, cond, eqb, List, [], ◌∷◌, ◌++◌, Some, None, Ok, Err, Option, Result, sym, refl, ap, ◌∙◌, subst, append_assoc, arith}
+use Rattle.std.specs.List.{flat_map, position_or_len}
 use Rattle.std.proofs.lemmas.List.{flat_map_more}
 use Rattle.std.proofs.lemmas.Bool.{eqb-true}
 use Rattle.book.specs.Book as book
 use Rattle.book.specs.Book.{Book, answer, after, fresh}
-use Rattle.book.specs.Calls as booked
-use Rattle.book.specs.Calls.{Follows, said, done, writes, blanks, wipes}
+use Rattle.book.specs.Calls.{Call, Follows, said, done, wipe, write, blank, writes, blanks, wipes}
 use Rattle.book.specs.SlipFaults as slip
 use Rattle.book.specs.Story.{Leads}
 use Rattle.book.specs.declared.slip_fault.SlipFault.{SlipFault}
+use Rattle.typed.proofs.Fronts.{one_before}
 use Rattle.typed.specs.Pieces.{Part, remark, closed, pieces_after}
-use Rattle.sheet.specs.BookCalls.{all_done, in_book}
-use Rattle.sheet.specs.Calls.{Call, wipe, write, blank, made_all, call_of, calls_of, calls_of_bytes, calls_of_part}
+use Rattle.sheet.specs.Calls.{all_done, call_of, calls_of, calls_of_bytes, calls_of_part}
 use Rattle.sheet.specs.Characters.{character_of}
 use Rattle.sheet.specs.Taking.{before_slash, is_other, line_case, at_byte, and_then, entered, taken_all, take_line}
 use Rattle.sheet.specs.declared.characters.Character.{Character}
@@ -55,53 +54,42 @@ pieces_calls : (line front : List ℕ) → flat_map calls_of_part (pieces_after 
 pieces_calls [] front = closed_calls front []
 pieces_calls (byte ∷ bytes) front =
     one_byte_calls front bytes byte (pieces_calls bytes []) (pieces_calls bytes (front ++ byte ∷ [])) (eqb byte 47) (eqb byte 32) refl
+    ∙ ap (λ (groups : List ℕ). calls_of_bytes front ++ calls_of_bytes groups) (sym (one_before (eqb byte 47) byte (position_or_len (λ b. eqb b 47) bytes) bytes))
 
--- the calls of bytes that are all taken are all accepted
+-- bytes that are all taken lead from book to book by calls that are all accepted
 module _ (case : Case) (place byte : ℕ) (bytes : List ℕ) (b last : Book)
-    (rest : (c : Book) → taken_all true case (place + 1) bytes c ≡ Ok last → made_all (calls_of_bytes bytes) c ≡ Ok last) where
-  call_made : (called : Result Book SlipFault) → and_then (at_byte place called) (taken_all true case (place + 1) bytes) ≡ Ok last → and_then called (made_all (calls_of_bytes bytes)) ≡ Ok last
-  call_made (Ok next) e = rest next e
-  call_made (Err fault) e = never _ last e
-
-  write_made : (other : Bool) (called : Result Book SlipFault) → and_then (cond other (Err (OtherCase place)) (at_byte place called)) (taken_all true case (place + 1) bytes) ≡ Ok last → and_then called (made_all (calls_of_bytes bytes)) ≡ Ok last
-  write_made true called e = never _ last e
-  write_made false called e = call_made called e
-
-  byte_made : (space : Bool) (says : Option Character) → eqb byte 32 ≡ space → character_of byte ≡ says → and_then (cond space (Ok b) (entered true case place byte says b)) (taken_all true case (place + 1) bytes) ≡ Ok last → made_all (call_of says ++ calls_of_bytes bytes) b ≡ Ok last
-  byte_made true says s is e = ap (λ calls. made_all (calls ++ calls_of_bytes bytes) b) (no_call says (sym is ∙ space_outside byte s)) ∙ rest b e
-  byte_made false (Some (Symbol v)) s is e = write_made (is_other case byte) (book.write v b) e
-  byte_made false (Some QuestionMark) s is e = call_made (book.blank b) e
-  byte_made false None s is e = never _ last e
-
-bytes_made : (case : Case) (place : ℕ) (bytes : List ℕ) (b last : Book) → taken_all true case place bytes b ≡ Ok last → made_all (calls_of_bytes bytes) b ≡ Ok last
-bytes_made case place [] b last e = cc
-bytes_made case place (byte ∷ bytes) b last e =
-    byte_made case place byte bytes b last (λ c. bytes_made case (place + 1) bytes c last) (eqb byte 32) (character_of byte) refl refl e
-
--- calls that are all accepted lead from book to book
-module _ (calls : List Call) (b last : Book) (rest : (c : Book) → made_all calls c ≡ Ok last → Leads c (all_done calls) last) where
-  call_leads : (call : Call) (called : Result Book SlipFault) → Follows b (in_book call) (said slip.told called) (after b called) → and_then called (made_all calls) ≡ Ok last → Leads b (all_done (call ∷ calls)) last
+    (rest : (c : Book) → taken_all true case (place + 1) bytes c ≡ Ok last → Leads c (all_done (calls_of_bytes bytes)) last) where
+  call_leads : (call : Call) (called : Result Book SlipFault) → Follows b call (said slip.told called) (after b called)
+      → and_then (at_byte place called) (taken_all true case (place + 1) bytes) ≡ Ok last → Leads b (all_done (call ∷ calls_of_bytes bytes)) last
   call_leads call (Ok next) follows e = (next, follows, rest next e)
-  call_leads call (Err fault) follows e = let z : ◌≡◌ {A = ℕ} 0 1 = cc in absurd (omega arith)
+  call_leads call (Err fault) follows e = never _ last e
 
-  one_leads : (call : Call) → made_all (call ∷ calls) b ≡ Ok last → Leads b (all_done (call ∷ calls)) last
-  one_leads wipe e = (fresh, wipes, rest fresh e)
-  one_leads (write v) e = call_leads (write v) (book.write v b) writes e
-  one_leads blank e = call_leads blank (book.blank b) blanks e
+  write_leads : (v : ℕ) (other : Bool) (called : Result Book SlipFault) → Follows b (write v) (said slip.told called) (after b called)
+      → and_then (cond other (Err (OtherCase place)) (at_byte place called)) (taken_all true case (place + 1) bytes) ≡ Ok last
+      → Leads b (all_done (write v ∷ calls_of_bytes bytes)) last
+  write_leads v true called follows e = never _ last e
+  write_leads v false called follows e = call_leads (write v) called follows e
 
-made_leads : (calls : List Call) (b last : Book) → made_all calls b ≡ Ok last → Leads b (all_done calls) last
-made_leads [] b last e = cc
-made_leads (call ∷ calls) b last e = one_leads calls b last (λ c. made_leads calls c last) call e
+  byte_leads : (space : Bool) (says : Option Character) → eqb byte 32 ≡ space → character_of byte ≡ says
+      → and_then (cond space (Ok b) (entered true case place byte says b)) (taken_all true case (place + 1) bytes) ≡ Ok last
+      → Leads b (all_done (call_of says ++ calls_of_bytes bytes)) last
+  byte_leads true says s is e =
+      subst (λ (calls : List Call). Leads b (all_done (calls ++ calls_of_bytes bytes)) last) (sym (no_call says (sym is ∙ space_outside byte s))) (rest b e)
+  byte_leads false (Some (Symbol v)) s is e = write_leads v (is_other case byte) (book.write v b) writes e
+  byte_leads false (Some QuestionMark) s is e = call_leads blank (book.blank b) blanks e
+  byte_leads false None s is e = never _ last e
+
+bytes_lead : (case : Case) (place : ℕ) (bytes : List ℕ) (b last : Book) → taken_all true case place bytes b ≡ Ok last → Leads b (all_done (calls_of_bytes bytes)) last
+bytes_lead case place [] b last e = cc
+bytes_lead case place (byte ∷ bytes) b last e =
+    byte_leads case place byte bytes b last (λ c. bytes_lead case (place + 1) bytes c last) (eqb byte 32) (character_of byte) refl refl e
 
 module _ (line : List ℕ) (b last : Book) (r : Result (Unit {0}) LineFault) (a : r ≡ answer (take_line true line)) (e : last ≡ after fresh (take_line true line)) where
-  pub line_made : r ≡ Ok tt → made_all (calls_of line) b ≡ Ok last
-  line_made ok =
-      let groups = before_slash line in
-      ap (λ calls. made_all calls fresh) (pieces_calls line [])
-      ∙ bytes_made (line_case groups) 0 groups fresh last (accepted (take_line true line) last (sym ok ∙ a) e)
-
   pub line_leads : r ≡ Ok tt → Leads b (all_done (calls_of line)) last
-  line_leads ok = made_leads (calls_of line) b last (line_made ok)
+  line_leads ok =
+      let groups = before_slash line in
+      let led = bytes_lead (line_case groups) 0 groups fresh last (accepted (take_line true line) last (sym ok ∙ a) e) in
+      (fresh, wipes, subst (λ (calls : List Call). Leads fresh (all_done calls) last) (sym (pieces_calls line [])) led)
 
-  pub only_wiped : (fault : LineFault) → r ≡ Err fault → Leads b ((booked.wipe, done) ∷ []) last
+  pub only_wiped : (fault : LineFault) → r ≡ Err fault → Leads b ((wipe, done) ∷ []) last
   only_wiped fault err = (fresh, wipes, e ∙ ap (after fresh) (refused (take_line true line) fault (sym err ∙ a)))

@@ -1,4 +1,3 @@
-pub mod BookCalls
 pub mod Calls
 pub mod Characters
 pub mod Faults

@@ -4,6 +4,7 @@
 --   taken          one byte of that part: the book after it, or why the line is refused there
 --   take_line      a whole line, on a fresh book
 use Rattle.std.specs.Prelude.{ℕ, ◌+◌, Bool, cond, List, [], ◌∷◌, Some, None, Ok, Err, Option, Result, ◌==◌}
+use Rattle.std.specs.List.{before_first}
 use Rattle.std.specs.Option.{unwrap_or}
 use Rattle.std.specs.Char.{is_ascii_lowercase, is_ascii_uppercase}
 use Rattle.book.specs.Book.{Book, fresh, write, blank}
@@ -17,8 +18,7 @@ use Rattle.sheet.specs.declared.fault.LineFault.{LineFault}
 use Rattle.sheet.specs.declared.fault.LineFault.TheVariants.{OnSlip, OutsideSet, OtherCase}
 
 abbrev pub before_slash : List ℕ → List ℕ
-before_slash [] = []
-before_slash (byte ∷ bytes) = cond (byte == 47) [] (byte ∷ before_slash bytes)
+before_slash line = before_first (λ byte. byte == 47) line
 
 -- the case of a line is that of its first letter, small where it has none
 abbrev pub line_case : List ℕ → Case

@@ -1,7 +1,6 @@
 // A typed line, taken onto a slip.
 ghost use Rattle.std.specs.Prelude.{◌≡◌, true, false, [], ◌∷◌, Ok, Err};
-ghost use Rattle.sheet.specs.BookCalls.{all_done};
-ghost use Rattle.sheet.specs.Calls.{calls_of, made_all};
+ghost use Rattle.sheet.specs.Calls.{all_done, calls_of};
 ghost use Rattle.sheet.specs.Taking.{before_slash, is_other, line_case, outcome, taken, taken_all, take_line};
 ghost use Rattle.book.specs.Book.{after, answer, fresh};
 ghost use Rattle.book.specs.Calls.{done, wipe};
@@ -16,9 +15,9 @@ use slip::slip::Slip;
 pub fn take_line(slip: &mut Slip, line: &[u8]) -> Result<(), LineFault>
     ensures answer { result ≡ answer (take_line true line.now) }
     ensures book { slip.new ≡ after fresh (take_line true line.now) }
-    ensures calls { result ≡ Ok tt → made_all (calls_of line.now) slip.old ≡ Ok slip.new }
     ensures leads { result ≡ Ok tt → Leads slip.old (all_done (calls_of line.now)) slip.new }
-    ensures wiped { (fault : LineFault) → result ≡ Err fault → Leads slip.old ((wipe, done) ∷ []) slip.new }
+    ensures wiped { (fault : LineFault) → result ≡ Err fault
+        → Leads slip.old ((wipe, done) ∷ []) slip.new }
 {
     take(slip, line, true)
 }

@@ -11,7 +11,7 @@ place_or_end p xs =
     let within = prefix_len-le-length (λ x. not (p x)) xs in
     grind (arith, nat_tests)
 
-one_before : (p : Bool) (x n : ℕ) (xs : List ℕ) → take (cond (not p) (1 + n) 0) (x ∷ xs) ≡ cond p [] (x ∷ take n xs)
+pub one_before : (p : Bool) (x n : ℕ) (xs : List ℕ) → take (cond (not p) (1 + n) 0) (x ∷ xs) ≡ cond p [] (x ∷ take n xs)
 one_before true x n xs = refl
 one_before false x n xs = simp one-add
 

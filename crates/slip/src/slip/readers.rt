@@ -30,6 +30,7 @@ impl Slip {
     }
 
     /// How many places are doubted.
+    #[tactic(auto, using(book::proofs::Doubts::counted))]
     pub fn doubts(&self) -> usize
         ensures { result ≡ doubts self.now }
     {

@@ -16,10 +16,10 @@ impl Slip {
     /// Seal: appends the k check symbols, undoubted, that make the row sound by the code.
     #[tactic(auto, using(crate::proofs::Memory::steps))]
     pub fn seal<C: Checksum>(&mut self) -> Result<(), CodeFault>
-        ensures answer { result ≡ answer (seal C.SymbolField.Field.numbers C.SymbolField.Field.field C.Checksum.code self.old) }
-        ensures book { self.new ≡ after self.old (seal C.SymbolField.Field.numbers C.SymbolField.Field.field C.Checksum.code self.old) }
+        ensures answer { result ≡ answer (seal C.SymbolField.numbers C.SymbolField.field C.code self.old) }
+        ensures book { self.new ≡ after self.old (seal C.SymbolField.numbers C.SymbolField.field C.code self.old) }
         ensures holdable { Holdable self.old }
-        ensures sound { result ≡ Ok tt → Sound C.SymbolField.Field.field C.Checksum.code (elements C.SymbolField.Field.numbers (row self.new)) }
+        ensures sound { result ≡ Ok tt → Sound C.SymbolField.field C.code (elements C.SymbolField.numbers (row self.new)) }
     {
         C::laws();
         if self.len == 0 {
@@ -35,7 +35,7 @@ impl Slip {
     /// The code's engine after the slip's row.
     #[tactic(auto, using(crate::proofs::Sealing::residue_steps))]
     pub fn engine<C: Checksum>(&self) -> Engine<C>
-        ensures { result ≡ residue C.SymbolField.Field.field C.Checksum.code (elements C.SymbolField.Field.numbers (row self.now)) }
+        ensures { result ≡ residue C.SymbolField.field C.code (elements C.SymbolField.numbers (row self.now)) }
     {
         C::SymbolField::small();
         let symbols = self.symbols();
@@ -49,8 +49,8 @@ impl Slip {
     // The check symbols, undoubted, where there is room for them.
     #[tactic(auto, using(checksum::proofs::Sizes::engine_fits))]
     fn append_checks<C: Checksum>(&mut self)
-        requires { length self.old + checks C.Checksum.code ≤ 89 }
-        ensures { self.new ≡ self.old ++ map sure (check_symbols C.SymbolField.Field.numbers C.SymbolField.Field.field C.Checksum.code (row self.old)) }
+        requires { length self.old + checks C.code ≤ 89 }
+        ensures { self.new ≡ self.old ++ map sure (check_symbols C.SymbolField.numbers C.SymbolField.field C.code (row self.old)) }
     {
         C::SymbolField::small();
         let checks = self.engine::<C>().closing();

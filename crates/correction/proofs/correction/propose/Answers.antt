@@ -1,20 +1,19 @@
 use Rattle.std.proofs.Common.{ap, arith}
 use Rattle.algebra.specs.Rows.{count}
 use Rattle.book.specs.Book.{marks}
-use Rattle.book.proofs.Doubts.{trues_count}
 use Rattle.correction.proofs.Proposals.{tells_at, refused_doubts, refused_errors, refused_erasures, refused_rest, all_proposed}
 use Rattle.correction.proofs.correction.propose.Goals as goal
 
 pub returns-then-doubts-s-clause-tells : goal.returns-then-doubts-s-clause-tells
-returns-then-doubts-s-clause-tells g c = refused_doubts (omega (arith, c.doubts-doubts.ensures, trues_count (marks c.args.slip.now)))
+returns-then-doubts-s-clause-tells g c = refused_doubts (omega (arith, c.doubts-doubts.ensures))
 
 pub locate-requires-clause-few : goal.locate-requires-clause-few
-locate-requires-clause-few g c = omega (arith, c.doubts-doubts.ensures, trues_count (marks c.args.slip.now), ap count c.marks-marks.ensures.marks)
+locate-requires-clause-few g c = omega (arith, c.doubts-doubts.ensures, ap count c.marks-marks.ensures.marks)
 
 pub returns-then-errors-s-clause-tells : goal.returns-then-errors-s-clause-tells
 returns-then-errors-s-clause-tells g c =
     tells_at c.marks-marks.ensures.marks c.root_generator-root.ensures (ap (λ p. p.0) c.root_exponents-first.ensures)
-    (refused_errors c.locate.ensures.errors (omega (arith, c.doubts-doubts.ensures, trues_count (marks c.args.slip.now), ap count c.marks-marks.ensures.marks)))
+    (refused_errors c.locate.ensures.errors (omega (arith, c.doubts-doubts.ensures, ap count c.marks-marks.ensures.marks)))
 
 pub returns-in_err-list_erasures-clause-tells : goal.returns-in_err-list_erasures-clause-tells
 returns-in_err-list_erasures-clause-tells g c =

@@ -1,8 +1,5 @@
-use Rattle.sheet.proofs.CallsMade.{line_made, line_leads, only_wiped}
+use Rattle.sheet.proofs.CallsMade.{line_leads, only_wiped}
 use Rattle.sheet.proofs.taking.take_line.Goals as goal
-
-pub returns-clause-calls : goal.returns-clause-calls
-returns-clause-calls c = line_made c.args.line.now c.args.slip.now _ _ c.take.ensures.answer c.take.ensures.book
 
 pub returns-clause-leads : goal.returns-clause-leads
 returns-clause-leads c = line_leads c.args.line.now c.args.slip.now _ _ c.take.ensures.answer c.take.ensures.book

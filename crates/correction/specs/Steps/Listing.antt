@@ -4,8 +4,8 @@
 --   OnRow      a change at a position of a row of n symbols
 --   Listable   each position of a list has the change that Y tells, and there is room for their records
 --   Lists      they are listed, whatever Y is
+use Rattle.std.specs.List.{AllByRecursion}
 use Rattle.std.specs.Prelude.{◌≡◌, ℕ, ◌+◌, ◌-◌, ◌<◌, ◌≤◌, List, [], ◌∷◌, ◌++◌, map, length, Some, Option}
-use Rattle.algebra.specs.Series.{All}
 use Rattle.book.specs.declared.record.Record.{Record}
 
 -- places count from a row's front, positions from its end
@@ -20,7 +20,7 @@ abbrev pub OnRow : ℕ → (ℕ → ℕ → Type 0) → ℕ → ℕ → Type 0
 OnRow n Change p y = (p < n) × Change p y
 
 pub record Listable (Change : ℕ → ℕ → Type 0) (Y : ℕ → ℕ) (ps : List ℕ) (before : List Record) : Type 0 where
-  pub changes : All (λ p. Change p (Y p)) ps
+  pub changes : AllByRecursion (λ p. Change p (Y p)) ps
   pub room : length before + length ps ≤ 16
 
 abbrev pub Lists : (ℕ → ℕ → Type 0) → ℕ → List ℕ → List Record → Option (Unit {0}) → List Record → Type 0

@@ -2,12 +2,13 @@
 --   located     the error locator that decoding finds, the marked places being erased
 --   Told        decoding tells the change at a position
 --   Tells       wherever the changes at all its positions are told, the proposal is their records
+use Rattle.std.specs.List.{AllByRecursion}
 use Rattle.std.specs.Prelude.{◌≡◌, ℕ, ◌+◌, ◌-◌, ◌*◌, ◌≤◌, Bool, List, ◌++◌, map, length, Some, Option}
 use Rattle.algebra.specs.Decode.{error_locator, errata_locator, errata_evaluator, root_position}
 use Rattle.algebra.specs.Field.{FieldOn, Numbers, HasOrder, pow}
 use Rattle.algebra.specs.Poly.{coeff}
 use Rattle.algebra.specs.Rows.{positions}
-use Rattle.algebra.specs.Series.{All, deriv}
+use Rattle.algebra.specs.Series.{deriv}
 use Rattle.polynomial.specs.Roots.{roots}
 use Rattle.correction.specs.Forney.{Valued}
 use Rattle.correction.specs.Listing.{OnRow, record_of}
@@ -27,8 +28,8 @@ module _ {E S : Type 0} (F : FieldOn E) (up : S → E) (N : Numbers S) (s : List
   -- Y gives each change, and there are no more than the syndromes can tell
   pub record Complete (n : ℕ) (Y : ℕ → ℕ) : Type 0 where
     pub order : HasOrder F a n
-    pub doubted : All (λ p. Told p (Y p)) (positions marks)
-    pub errors : All (λ p. OnRow (length marks) Told p (Y p)) (found n)
+    pub doubted : AllByRecursion (λ p. Told p (Y p)) (positions marks)
+    pub errors : AllByRecursion (λ p. OnRow (length marks) Told p (Y p)) (found n)
     pub few : length (positions marks) + length (found n) ≤ 16
     pub within : 2 * (length located - 1) + length (positions marks) ≤ length s
 

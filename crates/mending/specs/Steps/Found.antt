@@ -1,8 +1,8 @@
 -- What is found by a search for the near row. Assumes nothing.
 --   Finding   records that lead to the near row
 --   Found     an answer of a search: such records, or why there are none
+use Rattle.std.specs.List.{AllByRecursion}
 use Rattle.std.specs.Prelude.{◌≡◌, ℕ, ◌<◌, ◌≤◌, List, length, None, Ok, Err, Result}
-use Rattle.algebra.specs.Series.{All}
 use Rattle.book.specs.Book.{Book, row}
 use Rattle.book.specs.Calls.{Mends, refused, unmendable}
 use Rattle.book.specs.CodeFaults.{told}
@@ -18,7 +18,7 @@ pub record Finding (C : Rows) (r w : ℕ) (b : Book) (cs : List Record) : Type 0
   pub near : Near C b meant
   pub listed : cs ≡ changes C b meant
   pub subtracts : subtracted C cs (row b) ≡ meant
-  pub symbols : All (λ c. c.change < 32) cs
+  pub symbols : AllByRecursion (λ c. c.change < 32) cs
   pub room : length cs ≤ r
 
 abbrev pub Found : Rows → ℕ → ℕ → Book → Result Pattern CodeFault → Type 0
