@@ -32,8 +32,8 @@ impl<C: Checksum> Engine<C> {
         ensures { result ≡ one C.SymbolField.Field.field (checks C.Checksum.code) }
     {
         C::laws();
-        let mut entries = [C::SymbolField::zero(); 16];
-        entries[0] = C::SymbolField::one();
+        let mut entries = [C::SymbolField::ZERO; 16];
+        entries[0] = C::SymbolField::ONE;
         Engine { entries }
     }
 
@@ -95,7 +95,7 @@ impl<C: Checksum> Engine<C> {
         ensures { self.new ≡ residue_from C.SymbolField.Field.field C.Checksum.code.lower self.old (replicate (checks C.Checksum.code) C.SymbolField.Field.field.𝟘) }
     {
         for _ in 0..C::checksum_length() {
-            self.input_fe(C::SymbolField::zero());
+            self.input_fe(C::SymbolField::ZERO);
         }
     }
 

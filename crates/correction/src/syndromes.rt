@@ -47,7 +47,7 @@ pub(crate) fn syndromes<C: Checksum>(slip: &Slip, out: &mut [C::CorrectionField]
     C::laws();
     C::SymbolField::small();
     let engine = slip.engine::<C>();
-    let mut error = [C::SymbolField::zero(); 16];
+    let mut error = [C::SymbolField::ZERO; 16];
     let error = &mut error[..C::checksum_length()];
     error.copy_from_slice(engine.residue());
     subtract_target::<C>(error);

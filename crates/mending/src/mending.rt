@@ -106,7 +106,7 @@ fn list<C: Checksum>(pattern: &Pattern, records: &mut [Record]) -> (usize, usize
     records[..found.len()].copy_from_slice(found);
     (
         found.len(),
-        count_changes(found, number::<C>(C::SymbolField::zero())),
+        count_changes(found, number::<C>(C::SymbolField::ZERO)),
     )
 }
 

@@ -5,7 +5,7 @@ use Rattle.correction.proofs.locating.erasure_locator.Goals as goal
 use Rattle.correction.proofs.locating.erasure_locator.Goals.{then-marked, else-marked}
 
 pub loop-marked-init : goal.loop-marked-init
-loop-marked-init g c = doubted_none _ _ _ c.args.list.now (cc) c.requires c.one.ensures c.one-power.ensures
+loop-marked-init g c = doubted_none _ _ _ c.args.list.now (cc) c.requires c.ONE.ensures c.ONE-power.ensures
 
 pub overflow_add-len : goal.overflow_add-len
 overflow_add-len g c =

@@ -10,6 +10,6 @@ loop-preserved g c =
     let end = c.checksum_length-end.result in
     let left = end - (c.loop.counter + 1) in
     let one_less : end - c.loop.counter ≡ suc left = omega arith in
-    ap (λ r. residue_from F lower r (replicate left F.𝟘)) (c.input_fe.ensures ∙ ap (λ v. modulo F lower (v ∷ before)) c.zero.ensures)
+    ap (λ r. residue_from F lower r (replicate left F.𝟘)) (c.input_fe.ensures ∙ ap (λ v. modulo F lower (v ∷ before)) c.ZERO.ensures)
     ∙ ap (λ n. residue_from F lower before (replicate n F.𝟘)) (sym one_less)
     ∙ c.loop.invariant
