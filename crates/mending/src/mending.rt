@@ -76,10 +76,10 @@ fn can_mend<C: Checksum>(slip: &Slip, records: usize, work: usize) -> Result<(),
 {
     C::laws();
     let bound = bound::<C>();
-    if slip.len() <= C::checksum_length() {
+    if slip.len() <= C::CHECKSUM_LENGTH {
         return Err(CodeFault::Short);
     }
-    if slip.len() > C::code_length() {
+    if slip.len() > C::CODE_LENGTH {
         return Err(CodeFault::Long);
     }
     if records < bound {

@@ -5,8 +5,8 @@ returns g c =
     simp (
       c.values_at_powers.ensures,
       c.requires,
-      c.root_generator.ensures,
-      c.root_exponents-first.ensures,
+      c.ROOT_GENERATOR.ensures,
+      c.ROOT_EXPONENTS-first.ensures,
       c.subtract_target.ensures,
       c.copy_from_slice.ensures.after,
       c.residue.ensures.coefficients,

@@ -2,7 +2,7 @@ use Rattle.std.proofs.Common.{refl, ap₂}
 use Rattle.gf32.specs.Gf32.{fe_path}
 use Rattle.gf32_ext.specs.Gf1024.{fe1024}
 use Rattle.codes.specs.Bech32.{sheet}
-use Rattle.codes.proofs.bech32.Bech32Checksum.root_generator.Goals as goal
+use Rattle.codes.proofs.bech32.Bech32Checksum.ROOT_GENERATOR.Goals as goal
 
 pub returns : goal.returns
 unfolding sheet
