@@ -48,7 +48,7 @@ fn read_string(heap: Global, text: &str) -> anyhow::Result<Vec<Fe32>> {
 }
 
 fn verdict(row: &[Fe32]) -> &'static str {
-    if row.len() > Bech32::code_length() {
+    if row.len() > Bech32::CODE_LENGTH {
         "too long"
     } else if is_sound::<Bech32>(row) {
         "sound"

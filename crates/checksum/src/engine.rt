@@ -32,8 +32,8 @@ impl<C: Checksum> Engine<C> {
         ensures { result ≡ one C.SymbolField.field (checks C.code) }
     {
         C::laws();
-        let mut entries = [C::SymbolField::zero(); 16];
-        entries[0] = C::SymbolField::one();
+        let mut entries = [C::SymbolField::ZERO; 16];
+        entries[0] = C::SymbolField::ONE;
         Engine { entries }
     }
 
@@ -42,7 +42,7 @@ impl<C: Checksum> Engine<C> {
         ensures { self.new ≡ modulo C.SymbolField.field C.code.lower (symbol ∷ self.old) }
     {
         C::laws();
-        let residue = &mut self.entries[..C::checksum_length()];
+        let residue = &mut self.entries[..C::CHECKSUM_LENGTH];
         let times = residue[residue.len() - 1].neg();
         let mut below = symbol;
         for (power, coefficient) in residue.iter_mut().enumerate() {
@@ -79,7 +79,7 @@ impl<C: Checksum> Engine<C> {
         ensures as_many { length result.now ≡ checks C.code }
     {
         C::laws();
-        &self.entries[..C::checksum_length()]
+        &self.entries[..C::CHECKSUM_LENGTH]
     }
 
     /// Whether the residue is the code's target.
@@ -94,8 +94,8 @@ impl<C: Checksum> Engine<C> {
     fn input_zeros(&mut self)
         ensures { self.new ≡ residue_from C.SymbolField.field C.code.lower self.old (replicate (checks C.code) C.SymbolField.field.𝟘) }
     {
-        for _ in 0..C::checksum_length() {
-            self.input_fe(C::SymbolField::zero());
+        for _ in 0..C::CHECKSUM_LENGTH {
+            self.input_fe(C::SymbolField::ZERO);
         }
     }
 
@@ -105,7 +105,7 @@ impl<C: Checksum> Engine<C> {
     {
         C::laws();
         let mut entries = self.entries;
-        let residue = &mut entries[..C::checksum_length()];
+        let residue = &mut entries[..C::CHECKSUM_LENGTH];
         for (power, coefficient) in residue.iter_mut().enumerate() {
             *coefficient = difference(C::target_residue(power), *coefficient);
         }
@@ -144,7 +144,7 @@ impl<C: Checksum> CheckSymbols<C> {
         ensures as_many { length result.now ≡ checks C.code }
     {
         C::laws();
-        &self.symbols[..C::checksum_length()]
+        &self.symbols[..C::CHECKSUM_LENGTH]
     }
 }
 

@@ -7,7 +7,7 @@ use Rattle.algebra.proofs.Orders.{order_ne_zero}
 use Rattle.gf32.specs.declared.gf32.Fe32.{Fe32}
 use Rattle.gf32.specs.Binary.{product}
 use Rattle.gf32.specs.Every.{at}
-use Rattle.gf32.specs.Gf32.{gf32, gf32_units, fe, fe_path}
+use Rattle.gf32.specs.Gf32.{gf32, fe, fe_path}
 use Rattle.gf32.specs.Cyclic.{t_has_order_31}
 use Rattle.codes.specs.Finish.{finish}
 
@@ -24,7 +24,7 @@ roots zero p h = absurd (omega arith)
 roots (suc j) p h = roots_test j (omega arith)
 
 pub finish_lawful : Lawful gf32 gf32 (λ x. x) finish
-unfolding finish at_power gf32 gf32_units
+unfolding finish at_power gf32
 finish_lawful = record {
   root_ne_zero = order_ne_zero gf32 finish.root 31 t_has_order_31;
   exponents = lit≤ tt;

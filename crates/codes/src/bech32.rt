@@ -1,17 +1,12 @@
 // The sheet code: the checksum of bech32 strings, by BIP 173. Six check symbols over GF(32), with roots in GF(1024): a bound
 // of 3, rows of up to 89 symbols.
-ghost use Rattle.std.specs.Prelude.{◌≡◌};
+ghost use Rattle.std.specs.Prelude.{◌≡◌, refl};
+ghost use Rattle.algebra.specs.Code.{checks};
 ghost use Rattle.codes.specs.Bech32.{sheet};
 
 use checksum::checksum::Checksum;
 use gf32::gf32::Fe32;
 use gf32_ext::fe1024::Fe1024;
-
-const CHECKSUM_LENGTH: usize = 6;
-
-const CODE_LENGTH: usize = 89;
-
-const ROOT_EXPONENTS: (usize, usize) = (24, 26);
 
 /// The name of the sheet code. It has no value: a code is an argument of type.
 pub enum Bech32 {}
@@ -24,9 +19,33 @@ impl Checksum for Bech32 {
 
     ghost code = { sheet };
 
-    fn checksum_length() -> usize {
-        CHECKSUM_LENGTH
-    }
+    ghost CHECKSUM_LENGTH = { checks sheet };
+
+    ghost CODE_LENGTH = { sheet.limit };
+
+    ghost ROOT_GENERATOR = { sheet.root };
+
+    ghost ROOT_EXPONENTS = { (sheet.first, sheet.last) };
+
+    const CHECKSUM_LENGTH: usize = 6;
+
+    const CODE_LENGTH: usize = 89;
+
+    // 1 + 6ζ
+    const ROOT_GENERATOR: Fe1024 = Fe1024 {
+        c0: Fe32::P,
+        c1: Fe32::X,
+    };
+
+    const ROOT_EXPONENTS: (usize, usize) = (24, 26);
+
+    ghost checksum_length_is = { refl };
+
+    ghost code_length_is = { refl };
+
+    ghost root_generator_is = { refl };
+
+    ghost root_exponents_are = { refl };
 
     // x^6 + 29 x^5 + 22 x^4 + 20 x^3 + 21 x^2 + 29 x + 18
     fn generator(power: usize) -> Fe32 {
@@ -47,22 +66,6 @@ impl Checksum for Bech32 {
             0 => Fe32::P,
             _ => Fe32::Q,
         }
-    }
-
-    // 1 + 6ζ
-    fn root_generator() -> Fe1024 {
-        Fe1024 {
-            c0: Fe32::P,
-            c1: Fe32::X,
-        }
-    }
-
-    fn root_exponents() -> (usize, usize) {
-        ROOT_EXPONENTS
-    }
-
-    fn code_length() -> usize {
-        CODE_LENGTH
     }
 
     #[tactic(auto, using(crate::proofs::Bech32Laws::sheet_lawful), unfolding(gf32::specs::Gf32::gf32_numbers))]

@@ -1,15 +1,10 @@
 // The finish code, which seals the rows of a finish: four check symbols over GF(32), a bound of 4, rows of up to 31 symbols.
-ghost use Rattle.std.specs.Prelude.{◌≡◌};
+ghost use Rattle.std.specs.Prelude.{◌≡◌, refl};
+ghost use Rattle.algebra.specs.Code.{checks};
 ghost use Rattle.codes.specs.Finish.{finish};
 
 use checksum::checksum::Checksum;
 use gf32::gf32::Fe32;
-
-const CHECKSUM_LENGTH: usize = 4;
-
-const CODE_LENGTH: usize = 31;
-
-const ROOT_EXPONENTS: (usize, usize) = (1, 4);
 
 /// The name of the finish code. It has no value: a code is an argument of type.
 pub enum Finish {}
@@ -22,9 +17,29 @@ impl Checksum for Finish {
 
     ghost code = { finish };
 
-    fn checksum_length() -> usize {
-        CHECKSUM_LENGTH
-    }
+    ghost CHECKSUM_LENGTH = { checks finish };
+
+    ghost CODE_LENGTH = { finish.limit };
+
+    ghost ROOT_GENERATOR = { finish.root };
+
+    ghost ROOT_EXPONENTS = { (finish.first, finish.last) };
+
+    const CHECKSUM_LENGTH: usize = 4;
+
+    const CODE_LENGTH: usize = 31;
+
+    const ROOT_GENERATOR: Fe32 = Fe32::Z;
+
+    const ROOT_EXPONENTS: (usize, usize) = (1, 4);
+
+    ghost checksum_length_is = { refl };
+
+    ghost code_length_is = { refl };
+
+    ghost root_generator_is = { refl };
+
+    ghost root_exponents_are = { refl };
 
     // x^4 + 30 x^3 + 7 x^2 + 24 x + 19
     fn generator(power: usize) -> Fe32 {
@@ -43,18 +58,6 @@ impl Checksum for Finish {
             0 => Fe32::P,
             _ => Fe32::Q,
         }
-    }
-
-    fn root_generator() -> Fe32 {
-        Fe32::Z
-    }
-
-    fn root_exponents() -> (usize, usize) {
-        ROOT_EXPONENTS
-    }
-
-    fn code_length() -> usize {
-        CODE_LENGTH
     }
 
     #[tactic(auto, using(crate::proofs::FinishLaws::finish_lawful), unfolding(gf32::specs::Gf32::gf32_numbers))]

@@ -4,7 +4,7 @@ use Rattle.std.proofs.Common.{◌≡◌, ℕ, ◌≤◌, List, ◌++◌, map, le
 use Rattle.std.proofs.lemmas.List.{length-append, length-map}
 use Rattle.algebra.specs.Code.{Code, Lawful, bound}
 use Rattle.algebra.specs.Decode.{errata_locator, errata_evaluator, root_position}
-use Rattle.algebra.specs.Field.{FieldOn, Lifts, Numbers, Units, Cyclic, HasOrder, pow}
+use Rattle.algebra.specs.Field.{FieldOn, Lifts, Numbers, Cyclic, HasOrder, pow}
 use Rattle.algebra.specs.Poly.{coeff, tab}
 use Rattle.algebra.specs.Rows as rows
 use Rattle.algebra.specs.Rows.{positions, syndrome, symbols, change, locator_of, doubted_positions, found_locator}
@@ -29,13 +29,13 @@ use Rattle.correction.specs.Listing.{OnRow, record_of}
 use Rattle.book.specs.declared.pattern.Pattern.{Pattern}
 
 module _ {S E : Type 0} (N : Numbers S) (s : FieldOn S) (e : FieldOn E) (up : S → E) (L : Lifts s e up) (C : Code S E) (lawful : Lawful s e up C)
-    (M : Numbers E) (U : Units E) (cyclic : Cyclic e M U) (b : Book) (below : Below N (row b)) (list : List E)
+    (M : Numbers E) (g : E) (size : ℕ) (cyclic : Cyclic e M g size) (b : Book) (below : Below N (row b)) (list : List E)
     (is-list : list ≡ tab (bound C) (syndrome s e up C (elements N (row b)))) where
   abbrev b_s : rows.Book S
   b_s = in_elements N b
 
-  abbrev order : (m : ℕ) × (m ≤ U.order) × HasOrder e C.root m
-  order = has_order e C.root U.order cyclic.generates.positive (pow_order e M U cyclic C.root lawful.root_ne_zero)
+  abbrev order : (m : ℕ) × (m ≤ size) × HasOrder e C.root m
+  order = has_order e C.root size cyclic.generates.positive (pow_order e M g size cyclic C.root lawful.root_ne_zero)
 
   abbrev ord : ℕ
   ord = order.0

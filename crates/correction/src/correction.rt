@@ -56,8 +56,8 @@ fn propose<C: Checksum>(
     if doubts > s.len() {
         return None;
     }
-    let root = C::root_generator();
-    let (first, _) = C::root_exponents();
+    let root = C::ROOT_GENERATOR;
+    let (first, _) = C::ROOT_EXPONENTS;
     let Located {
         errors,
         evaluator,

@@ -30,12 +30,12 @@ fn times_linear<F: Field>(list: &mut [F], x: F)
     ensures { list.new ≡ lin F.field x (take (length list.old - 1) list.old) }
 {
     let (top, list) = list.split_last_mut().unwrap();
-    let mut below = F::zero();
+    let mut below = F::ZERO;
     for entry in list.iter_mut() {
         let next = difference(*entry, x.mul(below));
         below = mem::replace(entry, next);
     }
-    *top = difference(F::zero(), x.mul(below));
+    *top = difference(F::ZERO, x.mul(below));
 }
 
 // The product of 1 - a^p z over the positions p that are marked, the last place being position 0.
@@ -44,9 +44,9 @@ fn erasure_locator<'a, F: Field>(marks: &[bool], a: F, list: &'a mut [F]) -> &'a
     ensures list { result.now ≡ locator F.field (pow F.field a) (positions marks.now) }
     ensures size { length result.now ≡ count marks.now + 1 }
 {
-    list[0] = F::one();
+    list[0] = F::ONE;
     let mut len = 1;
-    let mut power = F::one();
+    let mut power = F::ONE;
     for marked in marks.iter().rev() {
         if *marked {
             len += 1;

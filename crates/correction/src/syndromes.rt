@@ -47,10 +47,10 @@ pub(crate) fn syndromes<C: Checksum>(slip: &Slip, out: &mut [C::CorrectionField]
     C::laws();
     C::SymbolField::small();
     let engine = slip.engine::<C>();
-    let mut error = [C::SymbolField::zero(); 16];
-    let error = &mut error[..C::checksum_length()];
+    let mut error = [C::SymbolField::ZERO; 16];
+    let error = &mut error[..C::CHECKSUM_LENGTH];
     error.copy_from_slice(engine.residue());
     subtract_target::<C>(error);
-    let (first, _) = C::root_exponents();
-    values_at_powers(error, C::root_generator(), first, out);
+    let (first, _) = C::ROOT_EXPONENTS;
+    values_at_powers(error, C::ROOT_GENERATOR, first, out);
 }

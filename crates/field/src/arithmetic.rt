@@ -33,5 +33,5 @@ pub fn multiple<F: Field>(x: F, n: usize) -> F
 pub fn muli<F: Field>(x: F, n: i64) -> F
     ensures { result ≡ multipleℤ F.field x n }
 {
-    if n % 2 == 0 { F::zero() } else { x }
+    if n % 2 == 0 { F::ZERO } else { x }
 }

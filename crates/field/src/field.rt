@@ -1,15 +1,15 @@
 // What a finite field is, and a field above another. Each field proves the laws of its own elements; all code above is
 // written, and proved, for any field that keeps them.
 ghost use denote.Param.{layout};
-ghost use Rattle.std.specs.Prelude.{◌≡◌, ◌≤◌, Bool, Decides};
+ghost use Rattle.std.specs.Prelude.{◌≡◌, ℕ, ◌≤◌, ◌^◌, Bool, Decides};
 ghost use prog.Memory.{size};
-ghost use Rattle.algebra.specs.Field.{FieldOn, Numbers, Units, Cyclic, Doubling, Lifts, Drops};
+ghost use Rattle.algebra.specs.Field.{FieldOn, Numbers, Cyclic, divisors_to, Doubling, Lifts, Drops};
 ghost use Rattle.field.specs.Elements.{inverse, numbered};
 
 use crate::fault::FieldFault;
 
-/// A finite field. Sum and product are methods with names; what Rust would hold as constants are functions, so that
-/// generic proofs can speak of them.
+/// A finite field. Sum and product are methods with names. Clauses know a constant by the ghost member of its name; the
+/// divisors are a function, since a constant that is a slice would have to say where in memory it lies.
 pub trait Field: Copy + PartialEq {
     // Sum, product, negative and inverse, with the laws of a field.
     ghost field: { FieldOn Self };
@@ -17,26 +17,27 @@ pub trait Field: Copy + PartialEq {
     // The whole number that each element stands for.
     ghost numbers: { Numbers Self };
 
-    // The elements but ZERO, as the powers of a generator.
-    ghost units: { Units Self };
+    ghost ZERO: { Self };
 
-    fn zero() -> Self
-        ensures { result ≡ field.𝟘 };
+    ghost ONE: { Self };
 
-    fn one() -> Self
-        ensures { result ≡ field.𝟙 };
+    ghost GENERATOR: { Self };
+
+    ghost MULTIPLICATIVE_ORDER: { ℕ };
+
+    const ZERO: Self;
+
+    const ONE: Self;
 
     /// An element whose powers are all elements but ZERO.
-    fn generator() -> Self
-        ensures { result ≡ units.generator };
+    const GENERATOR: Self;
 
     /// How many elements there are but ZERO.
-    fn order() -> usize
-        ensures { result ≡ units.order };
+    const MULTIPLICATIVE_ORDER: usize;
 
     /// The divisors of the order, ascending.
     fn order_factors<'a>() -> &'a [usize]
-        ensures { result.now ≡ units.divisors };
+        ensures { result.now ≡ divisors_to MULTIPLICATIVE_ORDER MULTIPLICATIVE_ORDER };
 
     fn add(self, other: Self) -> Self
         ensures { result ≡ field.add self other };
@@ -60,9 +61,13 @@ pub trait Field: Copy + PartialEq {
 
     /// An element takes little memory, so that generic code can own an array of elements.
     fn small()
-        ensures { size (layout Self.row) ≤ 1024 };
+        ensures { size (layout Self.row) ≤ 2 ^ 50 };
 
-    ghost cyclic: { Cyclic field numbers units };
+    ghost zero_is: { ZERO ≡ field.𝟘 };
+
+    ghost one_is: { ONE ≡ field.𝟙 };
+
+    ghost cyclic: { Cyclic field numbers GENERATOR MULTIPLICATIVE_ORDER };
 
     // The characteristic is 2. Nothing but what is said of multiples rests on this law.
     ghost doubling: { Doubling field };

@@ -13,7 +13,7 @@ use field::field::{ExtensionField, Field};
 fn entry<F: Field>(list: &[F], i: usize) -> F
     ensures { result ≡ coeff F.field list.now i }
 {
-    list.get(i).copied().unwrap_or(F::zero())
+    list.get(i).copied().unwrap_or(F::ZERO)
 }
 
 // What an operation answers for the entries at each place of two lists, as long as the longer.
@@ -61,7 +61,7 @@ pub fn from_powers<F: Field>(x: F, n: usize, out: &mut [F]) -> Result<usize, Lis
     if out.len() <= n {
         return Err(ListFault::Short);
     }
-    let mut power = F::one();
+    let mut power = F::ONE;
     for place in out[..=n].iter_mut() {
         *place = power;
         power = x.mul(power);
@@ -99,6 +99,6 @@ pub fn clear<F: Field>(list: &mut [F])
     ensures { list.new ≡ replicate (length list.old) F.field.𝟘 }
 {
     // Not `fill`, which asks that an element's `clone` cannot fail: a field does not promise that.
-    let zero = F::zero();
+    let zero = F::ZERO;
     list.fill_with(|| zero);
 }

@@ -5,7 +5,7 @@ use Rattle.std.specs.Int.Bits.{xor_self}
 use Rattle.algebra.specs.Field.{Cyclic, Doubling, HasOrder, pow}
 use Rattle.gf32.specs.Binary.{product, power}
 use Rattle.gf32.specs.Every.{at}
-use Rattle.gf32.specs.Gf32.{gf32, gf32_numbers, gf32_units, fe, fe_path}
+use Rattle.gf32.specs.Gf32.{gf32, gf32_numbers, gf32_generator, fe_path}
 use Rattle.gf32.specs.declared.gf32.Fe32.{Fe32}
 
 -- powers, on numbers
@@ -23,17 +23,17 @@ power_returns : power 2 31 ≡ 1
 unfolding product
 power_returns = refl
 
-pub t_has_order_31 : HasOrder gf32 gf32_units.generator 31
-unfolding gf32 gf32_units
+pub t_has_order_31 : HasOrder gf32 gf32_generator 31
+unfolding gf32
 t_has_order_31 = record {
   positive = lit< tt;
-  returns = fe_path _ _ (pow_value (fe 2 (lit< tt)) 31 ∙ power_returns);
-  least = λ k p h e. power_least k p h (sym (pow_value (fe 2 (lit< tt)) k) ∙ ap (λ (x : Fe32). x.value) e);
+  returns = fe_path _ _ (pow_value gf32_generator 31 ∙ power_returns);
+  least = λ k p h e. power_least k p h (sym (pow_value gf32_generator k) ∙ ap (λ (x : Fe32). x.value) e);
 }
 
-pub gf32_cyclic : Cyclic gf32 gf32_numbers gf32_units
-unfolding gf32_numbers gf32_units
-gf32_cyclic = record { order_is = refl; generates = t_has_order_31; divisors_are = refl }
+pub gf32_cyclic : Cyclic gf32 gf32_numbers gf32_generator 31
+unfolding gf32_numbers
+gf32_cyclic = record { order_is = refl; generates = t_has_order_31 }
 
 pub gf32_doubling : Doubling gf32
 unfolding gf32

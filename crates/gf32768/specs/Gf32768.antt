@@ -2,12 +2,12 @@
 --   gf32768           its operations with their laws
 --   fe32768_decides   a test of the three parts tells whether two elements are one
 --   gf32768_numbers   c0 + c1 ζ + c2 ζ² has the number c0 + 32 c1 + 1024 c2
---   gf32768_units     a generator of the elements but ZERO
+--   gf32768_generator a generator of the elements but ZERO
 --   lift32768         where an element of GF(32) stands in it
-use Rattle.std.specs.Prelude.{◌≡◌, ℕ, ◌+◌, ◌*◌, ◌/◌, ◌%◌, ◌==◌, ◌&&◌, [], ◌∷◌, refl, Decides}
+use Rattle.std.specs.Prelude.{◌≡◌, ℕ, ◌+◌, ◌*◌, ◌/◌, ◌%◌, ◌==◌, ◌&&◌, refl, Decides}
 use Rattle.std.proofs.Common.{ap, ◌∙◌, arith, lit<, lit≤}
 use Rattle.std.proofs.lemmas.Bool.Decides.{Decides-and, Decides-like}
-use Rattle.algebra.specs.Field.{FieldOn, Numbers, Units}
+use Rattle.algebra.specs.Field.{FieldOn, Numbers}
 use Rattle.algebra.specs.Triple.{Triple, each, plus, times, inverse}
 use Rattle.algebra.proofs.Cubic.{cubic}
 use Rattle.algebra.proofs.Carried.{carried}
@@ -78,12 +78,8 @@ gf32768_numbers =
       number_element = λ n h. omega arith;
     }
 
-unfoldable pub gf32768_units : Units Fe32768
-gf32768_units = record {
-  generator = fe32768 (fe 29 (lit< tt)) (fe 24 (lit< tt)) (fe 0 (lit< tt));
-  order = 32767;
-  divisors = 1 ∷ 7 ∷ 31 ∷ 151 ∷ 217 ∷ 1057 ∷ 4681 ∷ 32767 ∷ [];
-}
+abbrev pub gf32768_generator : Fe32768
+gf32768_generator = fe32768 (fe 29 (lit< tt)) (fe 24 (lit< tt)) (fe 0 (lit< tt))
 
 abbrev pub lift32768 : Fe32 → Fe32768
 lift32768 a = fe32768 a gf32.𝟘 gf32.𝟘

@@ -11,18 +11,18 @@ use Rattle.gf32.specs.Gf32.{gf32, gf32_numbers}
 use Rattle.gf32.specs.Cyclic.{gf32_doubling}
 use Rattle.gf32.specs.declared.gf32.Fe32.{Fe32}
 use Rattle.gf32_ext.specs.Irreducible.{no_cube}
-use Rattle.gf32768.specs.Gf32768.{gf32768, gf32768_numbers, gf32768_units, fe32768, fe32768_path, lift32768}
+use Rattle.gf32768.specs.Gf32768.{gf32768, gf32768_numbers, gf32768_generator, fe32768, fe32768_path, lift32768}
 use Rattle.gf32768.specs.declared.fe32768.Fe32768.{Fe32768}
 use Rattle.algebra.proofs.Computed.{order_is}
 
 -- 32767 = 7 × 31 × 151
-pub generator_has_order_32767 : HasOrder gf32768 gf32768_units.generator 32767
-unfolding squaring gf32768 gf32768_numbers gf32768_units carried cubic gf32 gf32_numbers product
-generator_has_order_32767 = order_is gf32768 gf32768_numbers gf32768_units.generator 32766 (1 ∷ 7 ∷ 31 ∷ 151 ∷ 217 ∷ 1057 ∷ 4681 ∷ []) refl refl (tt, (tt, (tt, (tt, (tt, (tt, (tt, tt)))))))
+pub generator_has_order_32767 : HasOrder gf32768 gf32768_generator 32767
+unfolding squaring gf32768 gf32768_numbers carried cubic gf32 gf32_numbers product
+generator_has_order_32767 = order_is gf32768 gf32768_numbers gf32768_generator 32766 (1 ∷ 7 ∷ 31 ∷ 151 ∷ 217 ∷ 1057 ∷ 4681 ∷ []) refl refl (tt, (tt, (tt, (tt, (tt, (tt, (tt, tt)))))))
 
-pub gf32768_cyclic : Cyclic gf32768 gf32768_numbers gf32768_units
-unfolding gf32768_numbers gf32768_units
-gf32768_cyclic = record { order_is = refl; generates = generator_has_order_32767; divisors_are = refl }
+pub gf32768_cyclic : Cyclic gf32768 gf32768_numbers gf32768_generator 32767
+unfolding gf32768_numbers
+gf32768_cyclic = record { order_is = refl; generates = generator_has_order_32767 }
 
 pub gf32768_doubling : Doubling gf32768
 unfolding gf32768 carried cubic

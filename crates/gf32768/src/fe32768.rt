@@ -10,17 +10,3 @@ pub struct Fe32768 {
     pub c1: Fe32,
     pub c2: Fe32,
 }
-
-impl Fe32768 {
-    pub const ZERO: Fe32768 = Fe32768 {
-        c0: Fe32::ZERO,
-        c1: Fe32::ZERO,
-        c2: Fe32::ZERO,
-    };
-
-    pub const ONE: Fe32768 = Fe32768 {
-        c0: Fe32::ONE,
-        c1: Fe32::ZERO,
-        c2: Fe32::ZERO,
-    };
-}

@@ -2,12 +2,12 @@
 --   gf1024           its operations with their laws
 --   fe1024_decides   a test of both parts tells whether two elements are one
 --   gf1024_numbers   c0 + c1 ζ has the number c0 + 32 c1
---   gf1024_units     a generator of the elements but ZERO
+--   gf1024_generator a generator of the elements but ZERO
 --   lift1024         where an element of GF(32) stands in it
-use Rattle.std.specs.Prelude.{◌≡◌, ◌+◌, ◌*◌, ◌/◌, ◌%◌, ◌==◌, ◌&&◌, [], ◌∷◌, refl, Decides}
+use Rattle.std.specs.Prelude.{◌≡◌, ◌+◌, ◌*◌, ◌/◌, ◌%◌, ◌==◌, ◌&&◌, refl, Decides}
 use Rattle.std.proofs.Common.{ap, ap₂, ◌∙◌, arith, lit<, lit≤}
 use Rattle.std.proofs.lemmas.Bool.Decides.{Decides-and, Decides-like}
-use Rattle.algebra.specs.Field.{FieldOn, Numbers, Units}
+use Rattle.algebra.specs.Field.{FieldOn, Numbers}
 use Rattle.algebra.specs.Pair.{Pair, both, plus, times, quotient}
 use Rattle.algebra.proofs.Quadratic.{quadratic}
 use Rattle.algebra.proofs.Carried.{carried}
@@ -71,12 +71,8 @@ gf1024_numbers =
       number_element = λ n h. omega arith;
     }
 
-unfoldable pub gf1024_units : Units Fe1024
-gf1024_units = record {
-  generator = fe1024 (fe 1 (lit< tt)) (fe 23 (lit< tt));
-  order = 1023;
-  divisors = 1 ∷ 3 ∷ 11 ∷ 31 ∷ 33 ∷ 93 ∷ 341 ∷ 1023 ∷ [];
-}
+abbrev pub gf1024_generator : Fe1024
+gf1024_generator = fe1024 (fe 1 (lit< tt)) (fe 23 (lit< tt))
 
 abbrev pub lift1024 : Fe32 → Fe1024
 lift1024 a = fe1024 a gf32.𝟘

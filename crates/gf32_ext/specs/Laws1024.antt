@@ -11,18 +11,18 @@ use Rattle.gf32.specs.Gf32.{gf32, gf32_numbers}
 use Rattle.gf32.specs.Cyclic.{gf32_doubling}
 use Rattle.gf32.specs.declared.gf32.Fe32.{Fe32}
 use Rattle.gf32_ext.specs.Irreducible.{no_square}
-use Rattle.gf32_ext.specs.Gf1024.{gf1024, gf1024_numbers, gf1024_units, fe1024, lift1024}
+use Rattle.gf32_ext.specs.Gf1024.{gf1024, gf1024_numbers, gf1024_generator, fe1024, lift1024}
 use Rattle.gf32_ext.specs.declared.fe1024.Fe1024.{Fe1024}
 use Rattle.algebra.proofs.Computed.{order_is}
 
 -- 1023 = 3 × 11 × 31
-pub generator_has_order_1023 : HasOrder gf1024 gf1024_units.generator 1023
-unfolding squaring gf1024 gf1024_numbers gf1024_units carried quadratic gf32 gf32_numbers product
-generator_has_order_1023 = order_is gf1024 gf1024_numbers gf1024_units.generator 1022 (1 ∷ 3 ∷ 11 ∷ 31 ∷ 33 ∷ 93 ∷ 341 ∷ []) refl refl (tt, (tt, (tt, (tt, (tt, (tt, (tt, tt)))))))
+pub generator_has_order_1023 : HasOrder gf1024 gf1024_generator 1023
+unfolding squaring gf1024 gf1024_numbers carried quadratic gf32 gf32_numbers product
+generator_has_order_1023 = order_is gf1024 gf1024_numbers gf1024_generator 1022 (1 ∷ 3 ∷ 11 ∷ 31 ∷ 33 ∷ 93 ∷ 341 ∷ []) refl refl (tt, (tt, (tt, (tt, (tt, (tt, (tt, tt)))))))
 
-pub gf1024_cyclic : Cyclic gf1024 gf1024_numbers gf1024_units
-unfolding gf1024_numbers gf1024_units
-gf1024_cyclic = record { order_is = refl; generates = generator_has_order_1023; divisors_are = refl }
+pub gf1024_cyclic : Cyclic gf1024 gf1024_numbers gf1024_generator 1023
+unfolding gf1024_numbers
+gf1024_cyclic = record { order_is = refl; generates = generator_has_order_1023 }
 
 pub gf1024_doubling : Doubling gf1024
 unfolding gf1024 carried quadratic

@@ -9,15 +9,3 @@ pub struct Fe1024 {
     pub c0: Fe32,
     pub c1: Fe32,
 }
-
-impl Fe1024 {
-    pub const ZERO: Fe1024 = Fe1024 {
-        c0: Fe32::ZERO,
-        c1: Fe32::ZERO,
-    };
-
-    pub const ONE: Fe1024 = Fe1024 {
-        c0: Fe32::ONE,
-        c1: Fe32::ZERO,
-    };
-}

@@ -55,11 +55,11 @@ fn run<F: Field>(s: &[F], conn: &mut [F], old: &mut [F], spare: &mut [F]) -> usi
     ensures size { result ≡ length (connection F.field s.now) }
     ensures list { conn.new ≡ connection F.field s.now ++ drop result conn.old }
 {
-    conn[0] = F::one();
-    old[0] = F::one();
+    conn[0] = F::ONE;
+    old[0] = F::ONE;
     let mut len = 1;
     let mut old_len = 1;
-    let mut old_inverse = F::one();
+    let mut old_inverse = F::ONE;
     let mut x = 1;
     // A discrepancy reads all the terms up to its own, so that an iterator over them would not serve.
     for n in 0..s.len() {

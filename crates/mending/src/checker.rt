@@ -40,7 +40,7 @@ impl Proposal<'_> {
         let doubts = self.slip.doubts();
         doubts <= bound
             && self.elsewhere() <= (bound - doubts) / 2
-            && self.is_sensible(number::<C>(C::SymbolField::zero()))
+            && self.is_sensible(number::<C>(C::SymbolField::ZERO))
             && self.covers()
     }
 

@@ -76,10 +76,10 @@ fn can_mend<C: Checksum>(slip: &Slip, records: usize, work: usize) -> Result<(),
 {
     C::laws();
     let bound = bound::<C>();
-    if slip.len() <= C::checksum_length() {
+    if slip.len() <= C::CHECKSUM_LENGTH {
         return Err(CodeFault::Short);
     }
-    if slip.len() > C::code_length() {
+    if slip.len() > C::CODE_LENGTH {
         return Err(CodeFault::Long);
     }
     if records < bound {
@@ -106,7 +106,7 @@ fn list<C: Checksum>(pattern: &Pattern, records: &mut [Record]) -> (usize, usize
     records[..found.len()].copy_from_slice(found);
     (
         found.len(),
-        count_changes(found, number::<C>(C::SymbolField::zero())),
+        count_changes(found, number::<C>(C::SymbolField::ZERO)),
     )
 }
 

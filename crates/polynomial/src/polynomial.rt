@@ -28,7 +28,7 @@ pub fn top_power<F: Field>(list: &[F]) -> usize
     ensures { result ≡ spec.degree F.field list.now }
 {
     list.iter()
-        .rposition(|coefficient| *coefficient != F::zero())
+        .rposition(|coefficient| *coefficient != F::ZERO)
         .unwrap_or(0)
 }
 
@@ -54,7 +54,7 @@ fn horner<T: Copy, F: Field, R: Fn(T) -> F>(list: &[T], x: F, read: R) -> F
 {
     list.iter()
         .rev()
-        .fold(F::zero(), |value, entry| read(*entry).add(x.mul(value)))
+        .fold(F::ZERO, |value, entry| read(*entry).add(x.mul(value)))
 }
 
 // The value at x, ZERO for the empty list.
@@ -102,7 +102,7 @@ pub fn find_nonzero_distinct_roots<F: Field>(base: F) -> Result<Roots<F>, ListFa
         base,
         order,
         left: order,
-        power: F::one(),
+        power: F::ONE,
     })
 }
 
@@ -124,7 +124,7 @@ impl<F: Field> Roots<F> {
     {
         not_empty(list)?;
         while let Some((index, power)) = self.step() {
-            if value_at(list, power) == F::zero() {
+            if value_at(list, power) == F::ZERO {
                 return Ok(Some(index));
             }
         }

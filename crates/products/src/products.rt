@@ -13,7 +13,7 @@ use polynomial::polynomial::top_power;
 pub fn product_term<F: Field>(p: &[F], q: &[F], n: usize) -> F
     ensures { result ≡ term_of F.field p.now (coeff F.field q.now) n }
 {
-    let mut sum = F::zero();
+    let mut sum = F::ZERO;
     for (i, a) in p.iter().enumerate() {
         let Some(rest) = n.checked_sub(i) else {
             return sum;
@@ -57,7 +57,7 @@ pub fn convolution<F: Field>(a: &[F], s: &[F], out: &mut [F]) -> Result<usize, L
     let terms = s.len().saturating_sub(power);
     let n = admit(a.len(), terms.max(1), out.len())?;
     if terms == 0 {
-        out[0] = F::zero();
+        out[0] = F::ZERO;
         return Ok(n);
     }
     series_product(a, s, power, terms, out);

@@ -97,7 +97,7 @@ fn listed(
 
 // The answer of a solve and of a settle, which have to list the same.
 fn answer_by<C: Checksum>(heap: Global, slip: &mut Slip) -> anyhow::Result<String> {
-    let mut work = vec![in heap; C::CorrectionField::zero(); WORKING]?;
+    let mut work = vec![in heap; C::CorrectionField::ZERO; WORKING]?;
     let mut records = [BLANK; RECORDS];
     let outcome = solve::<C>(slip, &mut records, work.as_mut_slice());
     let solved = listed(outcome, &records);

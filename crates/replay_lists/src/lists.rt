@@ -10,7 +10,7 @@ use replay::outcomes::{write_outcome, write_refusal};
 use std::alloc::Global;
 
 fn derivative<F: Field>(heap: Global, list: &[F]) -> anyhow::Result<String> {
-    let mut lent = vec![in heap; F::zero(); list.len()]?;
+    let mut lent = vec![in heap; F::ZERO; list.len()]?;
     let outcome = formal_derivative(list, lent.as_mut_slice());
     write_front(heap, outcome, lent.as_slice())
 }
@@ -23,13 +23,13 @@ fn product<F: Field>(heap: Global, cut: &str, a: &[F], b: &[F]) -> anyhow::Resul
     } else {
         cut.parse::<usize>()?
     };
-    let mut lent = vec![in heap; F::zero(); room]?;
+    let mut lent = vec![in heap; F::ZERO; room]?;
     let outcome = mul_mod_x_d(a, b, d, lent.as_mut_slice());
     write_front(heap, outcome, lent.as_slice())
 }
 
 fn convolved<F: Field>(heap: Global, a: &[F], s: &[F]) -> anyhow::Result<String> {
-    let mut lent = vec![in heap; F::zero(); s.len().max(1)]?;
+    let mut lent = vec![in heap; F::ZERO; s.len().max(1)]?;
     let outcome = convolution(a, s, lent.as_mut_slice());
     write_front(heap, outcome, lent.as_slice())
 }
@@ -41,7 +41,7 @@ fn roots<F: Field>(heap: Global, list: &[F], base: F) -> anyhow::Result<String> 
         Err(fault) => return write_refusal(heap, fault),
     };
     let mut indices: Vec<usize> = Vec::new(heap);
-    for _ in 0..F::order() {
+    for _ in 0..F::MULTIPLICATIVE_ORDER {
         match cursor.next(list) {
             Ok(Some(index)) => indices.push(index)?,
             Ok(None) => break,

@@ -76,7 +76,7 @@ impl<C: Checksum> CodeSet for One<C> {
     fn desk() -> Desk<C::CorrectionField> {
         C::CorrectionField::small();
         Desk {
-            work: [C::CorrectionField::zero(); 216],
+            work: [C::CorrectionField::ZERO; 216],
         }
     }
 

@@ -1,5 +1,6 @@
 // GF(32) is a field, and a field above itself. Products and inverses go by logarithms to the base t.
-ghost use Rattle.gf32.specs.Gf32.{gf32, gf32_numbers, gf32_units, fe_decides};
+ghost use Rattle.std.specs.Prelude.{refl};
+ghost use Rattle.gf32.specs.Gf32.{gf32, gf32_numbers, gf32_generator, fe_decides};
 ghost use Rattle.gf32.specs.Cyclic.{gf32_cyclic, gf32_doubling};
 ghost use Rattle.std.proofs.lemmas.Bool.Decides.{Decides-at};
 
@@ -19,7 +20,25 @@ impl Field for Fe32 {
 
     ghost numbers = { gf32_numbers };
 
-    ghost units = { gf32_units };
+    ghost ZERO = { gf32.𝟘 };
+
+    ghost ONE = { gf32.𝟙 };
+
+    ghost GENERATOR = { gf32_generator };
+
+    ghost MULTIPLICATIVE_ORDER = { 31 };
+
+    const ZERO: Fe32 = Fe32 { value: 0 };
+
+    const ONE: Fe32 = Fe32 { value: 1 };
+
+    const GENERATOR: Fe32 = Fe32 { value: 2 };
+
+    const MULTIPLICATIVE_ORDER: usize = ORDER;
+
+    ghost zero_is = { refl };
+
+    ghost one_is = { refl };
 
     ghost cyclic = { gf32_cyclic };
 
@@ -27,25 +46,6 @@ impl Field for Fe32 {
 
     ghost equality = { λ x y b e. Decides-at _ _ e (fe_decides x y) };
 
-    fn zero() -> Fe32 {
-        Fe32::ZERO
-    }
-
-    fn one() -> Fe32 {
-        Fe32::ONE
-    }
-
-    #[tactic(auto, unfolding(crate::specs::Gf32::gf32_units), using(crate::specs::Gf32::fe_path))]
-    fn generator() -> Fe32 {
-        Fe32 { value: 2 }
-    }
-
-    #[tactic(auto, unfolding(crate::specs::Gf32::gf32_units))]
-    fn order() -> usize {
-        ORDER
-    }
-
-    #[tactic(auto, unfolding(crate::specs::Gf32::gf32_units))]
     fn order_factors<'a>() -> &'a [usize] {
         &ORDER_FACTORS
     }

@@ -1,5 +1,6 @@
 // GF(32768) is a field above GF(32).
-ghost use Rattle.gf32768.specs.Gf32768.{gf32768, gf32768_numbers, gf32768_units, lift32768, fe32768_decides};
+ghost use Rattle.std.specs.Prelude.{refl};
+ghost use Rattle.gf32768.specs.Gf32768.{gf32768, gf32768_numbers, gf32768_generator, lift32768, fe32768_decides};
 ghost use Rattle.gf32768.specs.Laws32768.{gf32768_cyclic, gf32768_doubling};
 ghost use Rattle.std.proofs.lemmas.Bool.Decides.{Decides-at};
 
@@ -8,44 +9,51 @@ use field::fault::FieldFault;
 use field::field::{ExtensionField, Field};
 use gf32::gf32::Fe32;
 
-/// How many elements there are but ZERO.
-const ORDER: usize = 32767;
-
 static ORDER_FACTORS: [usize; 8] = [1, 7, 31, 151, 217, 1057, 4681, 32767];
 
-#[tactic(auto, unfolding(crate::specs::Gf32768::gf32768_numbers, crate::specs::Gf32768::gf32768_units, gf32::specs::Gf32::gf32_numbers))]
+#[tactic(auto, unfolding(crate::specs::Gf32768::gf32768_numbers, gf32::specs::Gf32::gf32_numbers))]
 impl Field for Fe32768 {
     ghost field = { gf32768 };
 
     ghost numbers = { gf32768_numbers };
 
-    ghost units = { gf32768_units };
+    ghost ZERO = { gf32768.𝟘 };
+
+    ghost ONE = { gf32768.𝟙 };
+
+    ghost GENERATOR = { gf32768_generator };
+
+    ghost MULTIPLICATIVE_ORDER = { 32767 };
+
+    const ZERO: Fe32768 = Fe32768 {
+        c0: Fe32::Q,
+        c1: Fe32::Q,
+        c2: Fe32::Q,
+    };
+
+    const ONE: Fe32768 = Fe32768 {
+        c0: Fe32::P,
+        c1: Fe32::Q,
+        c2: Fe32::Q,
+    };
+
+    const GENERATOR: Fe32768 = Fe32768 {
+        c0: Fe32::A,
+        c1: Fe32::C,
+        c2: Fe32::Q,
+    };
+
+    const MULTIPLICATIVE_ORDER: usize = 32767;
+
+    ghost zero_is = { refl };
+
+    ghost one_is = { refl };
 
     ghost cyclic = { gf32768_cyclic };
 
     ghost doubling = { gf32768_doubling };
 
     ghost equality = { λ x y b e. Decides-at _ _ e (fe32768_decides x y) };
-
-    fn zero() -> Fe32768 {
-        Fe32768::ZERO
-    }
-
-    fn one() -> Fe32768 {
-        Fe32768::ONE
-    }
-
-    fn generator() -> Fe32768 {
-        Fe32768 {
-            c0: Fe32::A,
-            c1: Fe32::C,
-            c2: Fe32::Q,
-        }
-    }
-
-    fn order() -> usize {
-        ORDER
-    }
 
     fn order_factors<'a>() -> &'a [usize] {
         &ORDER_FACTORS

@@ -1,5 +1,6 @@
 // GF(1024) is a field above GF(32).
-ghost use Rattle.gf32_ext.specs.Gf1024.{gf1024, gf1024_numbers, gf1024_units, lift1024, fe1024_decides};
+ghost use Rattle.std.specs.Prelude.{refl};
+ghost use Rattle.gf32_ext.specs.Gf1024.{gf1024, gf1024_numbers, gf1024_generator, lift1024, fe1024_decides};
 ghost use Rattle.gf32_ext.specs.Laws1024.{gf1024_cyclic, gf1024_doubling};
 ghost use Rattle.std.proofs.lemmas.Bool.Decides.{Decides-at};
 
@@ -8,43 +9,48 @@ use field::fault::FieldFault;
 use field::field::{ExtensionField, Field};
 use gf32::gf32::Fe32;
 
-/// How many elements there are but ZERO.
-const ORDER: usize = 1023;
-
 static ORDER_FACTORS: [usize; 8] = [1, 3, 11, 31, 33, 93, 341, 1023];
 
-#[tactic(auto, unfolding(crate::specs::Gf1024::gf1024_numbers, crate::specs::Gf1024::gf1024_units, gf32::specs::Gf32::gf32_numbers))]
+#[tactic(auto, unfolding(crate::specs::Gf1024::gf1024_numbers, gf32::specs::Gf32::gf32_numbers))]
 impl Field for Fe1024 {
     ghost field = { gf1024 };
 
     ghost numbers = { gf1024_numbers };
 
-    ghost units = { gf1024_units };
+    ghost ZERO = { gf1024.𝟘 };
+
+    ghost ONE = { gf1024.𝟙 };
+
+    ghost GENERATOR = { gf1024_generator };
+
+    ghost MULTIPLICATIVE_ORDER = { 1023 };
+
+    const ZERO: Fe1024 = Fe1024 {
+        c0: Fe32::Q,
+        c1: Fe32::Q,
+    };
+
+    const ONE: Fe1024 = Fe1024 {
+        c0: Fe32::P,
+        c1: Fe32::Q,
+    };
+
+    const GENERATOR: Fe1024 = Fe1024 {
+        c0: Fe32::P,
+        c1: Fe32::H,
+    };
+
+    const MULTIPLICATIVE_ORDER: usize = 1023;
+
+    ghost zero_is = { refl };
+
+    ghost one_is = { refl };
 
     ghost cyclic = { gf1024_cyclic };
 
     ghost doubling = { gf1024_doubling };
 
     ghost equality = { λ x y b e. Decides-at _ _ e (fe1024_decides x y) };
-
-    fn zero() -> Fe1024 {
-        Fe1024::ZERO
-    }
-
-    fn one() -> Fe1024 {
-        Fe1024::ONE
-    }
-
-    fn generator() -> Fe1024 {
-        Fe1024 {
-            c0: Fe32::P,
-            c1: Fe32::H,
-        }
-    }
-
-    fn order() -> usize {
-        ORDER
-    }
 
     fn order_factors<'a>() -> &'a [usize] {
         &ORDER_FACTORS

@@ -25,7 +25,7 @@ impl Slip {
         if self.len == 0 {
             return Err(CodeFault::Short);
         }
-        if self.len + C::checksum_length() > C::code_length() {
+        if self.len + C::CHECKSUM_LENGTH > C::CODE_LENGTH {
             return Err(CodeFault::Long);
         }
         self.append_checks::<C>();

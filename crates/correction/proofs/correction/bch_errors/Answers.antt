@@ -7,6 +7,6 @@ returns-clause-proposes g c n short long near =
     let N = g.C.SymbolField.Field.numbers in
     let slip = c.args.slip.now in
     proposes N g.C.SymbolField.Field.field g.C.CorrectionField.Field.field g.C.CorrectionField.ExtensionField.lifted c.lift_laws.ensures g.C.Checksum.code c.laws.ensures.lawful
-    g.C.CorrectionField.Field.numbers g.C.CorrectionField.Field.units g.met.C.CorrectionField.Field.cyclic
+    g.C.CorrectionField.Field.numbers g.C.CorrectionField.Field.GENERATOR g.C.CorrectionField.Field.MULTIPLICATIVE_ORDER g.met.C.CorrectionField.Field.cyclic
     slip (row_below N.size c.laws.ensures.alphabet slip c.propose-proposal.ensures.holdable) c.syndromes.new.out c.syndromes.ensures n short near
     c.propose-proposal.result c.propose-proposal.ensures.tells

@@ -14,5 +14,5 @@ pub returns : goal.returns
 returns g c =
     let below_top = length c.args.list.now - 1 in
     let parts = MatchOption-at_some _ _ _ c.unwrap.ensures c.split_last_mut.ensures.cases in
-    turned_all c.loop-entry.invariant c.loop-entry-test.false (omega arith) c.zero.ensures c.mul-2.ensures c.difference.ensures
+    turned_all c.loop-entry.invariant c.loop-entry-test.false (omega arith) (c.ZERO.ensures ∙ g.met.F.Field.zero_is) c.mul-2.ensures c.difference.ensures
     ∙ sym (ap (lin g.F.Field.field c.args.x) (ap (take below_top) parts.0 ∙ take_at c.unwrap.result.1.now (c.unwrap.result.0.now ∷ []) below_top (omega arith)))

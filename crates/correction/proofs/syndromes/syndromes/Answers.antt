@@ -5,8 +5,10 @@ returns g c =
     simp (
       c.values_at_powers.ensures,
       c.requires,
-      c.root_generator.ensures,
-      c.root_exponents-first.ensures,
+      c.ROOT_GENERATOR.ensures,
+      g.met.C.Checksum.root_generator_is,
+      c.ROOT_EXPONENTS-first.ensures,
+      g.met.C.Checksum.root_exponents_are,
       c.subtract_target.ensures,
       c.copy_from_slice.ensures.after,
       c.residue.ensures.coefficients,

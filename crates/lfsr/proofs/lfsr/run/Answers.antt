@@ -1,15 +1,18 @@
-use Rattle.std.proofs.Common.{◌≡◌, ◌+◌, ◌++◌, drop, set, ap, arith, rules}
+use Rattle.std.proofs.Common.{◌≡◌, ◌+◌, ◌++◌, drop, set, ap, ◌∙◌, arith, rules}
 use Rattle.lfsr.proofs.Steps.{start, kept, fits, grows}
 use Rattle.lfsr.proofs.lfsr.run.Goals as goal
 
 pub loop-n-init : goal.loop-n-init
-loop-n-init g c = start g.F.Field.field c.args.s.now c.args.conn.now c.args.old.now c.one.result c.one-2.result c.one-old_inverse.result (omega arith) (omega arith) c.one.ensures c.one-2.ensures c.one-old_inverse.ensures
+loop-n-init g c =
+    let one = g.met.F.Field.one_is in
+    start g.F.Field.field c.args.s.now c.args.conn.now c.args.old.now c.ONE.result c.ONE-2.result c.ONE-old_inverse.result (omega arith) (omega arith)
+    (c.ONE.ensures ∙ one) (c.ONE-2.ensures ∙ one) (c.ONE-old_inverse.ensures ∙ one)
 
 pub loop-n-preserved-then-old_len-x : goal.loop-n-preserved-then-old_len-x
 loop-n-preserved-then-old_len-x g c =
     let F = g.F.Field.field in
     let s = c.args.s.now in
-    let a = set c.args.conn.now 0 c.one.result in
+    let a = set c.args.conn.now 0 c.ONE.result in
     let l = c.loop-n in
     let r = c.product_term-d.result in
     let wrong : ¬ (r ≡ F.𝟘) = search rules in
@@ -22,7 +25,7 @@ pub loop-n-preserved : goal.loop-n-preserved
 loop-n-preserved g c =
     let F = g.F.Field.field in
     let s = c.args.s.now in
-    let a = set c.args.conn.now 0 c.one.result in
+    let a = set c.args.conn.now 0 c.ONE.result in
     let l = c.loop-n in
     let r = c.product_term-d.result in
     let wrong : ¬ (r ≡ F.𝟘) = search rules in

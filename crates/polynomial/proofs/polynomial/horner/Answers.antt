@@ -9,6 +9,6 @@ pub returns : goal.returns
 returns g c = λ entry h.
     let F = g.F.Field.field in
     let step = horner_step F c.args.x entry in
-    let summed : c.fold.result ≡ fold step c.zero.result (reverse c.args.list.now) =
+    let summed : c.fold.result ≡ fold step c.ZERO.result (reverse c.args.list.now) =
     fold_from_yields_List _ step _ _ c.fold.ensures.ran (YieldsList-from_rev_slice c.args.list.now (search rules)) (λ a y b q k. search (rules, h)) in
-    summed ∙ ap (λ z. fold step z (reverse c.args.list.now)) c.zero.ensures ∙ horner_sum F c.args.x entry c.args.list.now
+    summed ∙ ap (λ z. fold step z (reverse c.args.list.now)) (c.ZERO.ensures ∙ g.met.F.Field.zero_is) ∙ horner_sum F c.args.x entry c.args.list.now

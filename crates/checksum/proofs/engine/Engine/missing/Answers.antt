@@ -13,12 +13,12 @@ loop-power-preserved g c =
     let lawful = c.laws.ensures.lawful in
     let few = lawful.few_checks in
     let as-target = lawful.target_length in
-    let is-k = c.checksum_length.ensures in
-    let old = take c.checksum_length.result c.self.inside.entries in
+    let is-k = c.CHECKSUM_LENGTH.ensures ∙ g.met.C.Checksum.checksum_length_is in
+    let old = take c.CHECKSUM_LENGTH.result c.self.inside.entries in
     let new = poly_sub F code.target old in
     let i = c.loop-power.power in
     let x = c.index-residue-power.result in
-    let many = length-take-le c.checksum_length.result c.self.inside.entries (omega (arith, c.self.invariant)) in
+    let many = length-take-le c.CHECKSUM_LENGTH.result c.self.inside.entries (omega (arith, c.self.invariant)) in
     let long : length new ≡ length old = length_poly_sub F code.target old (omega arith) ∙ omega arith in
     let here : i < length old = omega arith in
     let left = coeff_left F code.target old old long i here c.loop-power.residue c.loop-power.invariant x in
@@ -31,15 +31,15 @@ returns g c =
     let lawful = c.laws.ensures.lawful in
     let few = lawful.few_checks in
     let as-target = lawful.target_length in
-    let is-k = c.checksum_length.ensures in
+    let is-k = c.CHECKSUM_LENGTH.ensures ∙ g.met.C.Checksum.checksum_length_is in
     let entries = c.self.inside.entries in
-    let old = take c.checksum_length.result entries in
+    let old = take c.CHECKSUM_LENGTH.result entries in
     let new = poly_sub F code.target old in
-    let many = length-take-le c.checksum_length.result entries (omega (arith, c.self.invariant)) in
+    let many = length-take-le c.CHECKSUM_LENGTH.result entries (omega (arith, c.self.invariant)) in
     let long : length new ≡ length old = length_poly_sub F code.target old (omega arith) ∙ omega arith in
     let held : old ≡ c.args.self = ap (λ n. take n entries) is-k ∙ c.self.view_is in
     let turned = length-reverse c.loop-power.residue in
-    take_at c.reverse.new.self (drop c.checksum_length.result entries) (checks code) (ap length c.reverse.ensures.after ∙ omega arith)
+    take_at c.reverse.new.self (drop c.CHECKSUM_LENGTH.result entries) (checks code) (ap length c.reverse.ensures.after ∙ omega arith)
     ∙ c.reverse.ensures.after
     ∙ ap reverse (c.loop-power.invariant ∙ replaced_all new old long c.loop-power.power c.loop-power-test.false)
     ∙ ap (λ r. reverse (poly_sub F code.target r)) held

@@ -6,8 +6,8 @@ use Rattle.slip.proofs.Memory.{can_hold}
 use Rattle.slip.proofs.Sealing.{sealed_book_sound}
 use Rattle.slip.proofs.slip.Slip.seal.Goals as goal
 
-pub returns-then-self-checksum_length-clause-holdable : goal.returns-then-self-checksum_length-clause-holdable
-returns-then-self-checksum_length-clause-holdable g c = can_hold c.self.inside c.args.self.now c.self.invariant c.self.view_is
+pub returns-then-self-CHECKSUM_LENGTH-clause-holdable : goal.returns-then-self-CHECKSUM_LENGTH-clause-holdable
+returns-then-self-CHECKSUM_LENGTH-clause-holdable g c = can_hold c.self.inside c.args.self.now c.self.invariant c.self.view_is
 
 pub returns-clause-holdable : goal.returns-clause-holdable
 returns-clause-holdable g c = can_hold c.self.inside c.args.self.now c.self.invariant c.self.view_is

@@ -3,7 +3,7 @@ use Rattle.algebra.proofs.Cubic.{cubic}
 use Rattle.algebra.proofs.Carried.{carried}
 use Rattle.gf32.specs.Gf32.{gf32, fe_path}
 use Rattle.gf32768.specs.Gf32768.{gf32768, fe32768_path}
-use Rattle.gf32768.proofs.fe32768.arithmetic.Fe32768Field.one.Goals as goal
+use Rattle.gf32768.proofs.fe32768.arithmetic.Fe32768Field.ONE.Goals as goal
 
 pub returns : goal.returns
 unfolding gf32768 carried cubic gf32

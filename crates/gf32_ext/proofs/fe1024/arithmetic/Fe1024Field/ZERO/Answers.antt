@@ -3,7 +3,7 @@ use Rattle.algebra.proofs.Quadratic.{quadratic}
 use Rattle.algebra.proofs.Carried.{carried}
 use Rattle.gf32.specs.Gf32.{gf32, fe_path}
 use Rattle.gf32_ext.specs.Gf1024.{gf1024, fe1024}
-use Rattle.gf32_ext.proofs.fe1024.arithmetic.Fe1024Field.zero.Goals as goal
+use Rattle.gf32_ext.proofs.fe1024.arithmetic.Fe1024Field.ZERO.Goals as goal
 
 pub returns : goal.returns
 unfolding gf1024 carried quadratic gf32
