@@ -2,5 +2,6 @@
 #![tactic(auto)]
 
 pub mod checker;
+pub mod lengths;
 pub mod mending;
 pub(crate) mod subtracting;
