@@ -83,12 +83,13 @@ def reading_list(roots):
         here = [part.name for part in FILES[path].parts if part in parts]
         if here:
             print("%-36s %s" % (path, ", ".join(here)))
-    facts = [part for part in parts if part.kind == "lemma"]
     print("\ndefinitions in specs/:", size([part for part in parts if in_specs(part) and defined(part)]))
     print("types and traits in src/:", size([part for part in parts if "/src/" in part.file.path]))
-    print("facts with their proofs in specs/: %d" % len(facts), *sorted(part.name for part in facts))
-    print("from proofs/:", *sorted({part.name for part in seen if isinstance(part, Part) and "/proofs/" in part.file.path}))
-    print("from std:", *sorted({part.rpartition(".")[2] for part in seen if isinstance(part, str)}))
+    for title, names in (("facts with their proofs in specs/:", {part.name for part in parts if part.kind == "lemma"}),
+                         ("from proofs/:", {part.name for part in seen if isinstance(part, Part) and "/proofs/" in part.file.path}),
+                         ("from std:", {part.rpartition(".")[2] for part in seen if isinstance(part, str)})):
+        if names:
+            print(title, *sorted(names))
 
 
 def by_file(title, parts):
