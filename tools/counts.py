@@ -8,6 +8,7 @@ clauses, those with a line over 100 and over 120 columns, and must-fail edits. T
 dependencies it lists, how many of them the crates' files cite, and the longest chain from a crate down to one that needs none.
 """
 
+import functools
 import glob
 import os
 import re
@@ -68,6 +69,7 @@ def main():
     listed = [(name, other) for name in needs for other in needs[name]]
     print("\ncrates.txt: %d crates, %d dependencies, %d cited" % (len(needs), len(listed), sum(cites(*pair) for pair in listed)))
 
+    @functools.cache
     def chain(name):
         return max((chain(other) for other in needs.get(name, [])), key=len, default=[]) + [name]
 
