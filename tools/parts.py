@@ -39,7 +39,7 @@ class Part:
         indent = re.match(" *", self.lines[0]).group()
         for text in re.split(r"\n(?=%s\S)" % indent, "\n".join(self.lines)):
             left = re.split(r" =\s", text)[0].split()
-            words = [word.strip("({,})") for word in left[1:]] if left and left[0] == self.name else []
+            words = [word.strip("({,})") for word in left[1:]] if left[:1] == [self.name] and left[1:2] != [":"] else []
             arguments = [word for word in words if getattr(self.file.find(word), "name", "") == word]
             found += self.file.cited(text, hidden + arguments)
         return found
