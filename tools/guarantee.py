@@ -10,7 +10,9 @@ that are near one sound row are near no other, and each sound row has as many ne
 
     (sum over i <= t of C(n - f, i) * 31^i) / 32^(4 - f),    t = (4 - f) / 2, rounded down.
 
-It is the chance that a row of letters drawn at random, f of them not understood, is shown as some row or refused with 17."""
+It is the chance that a row of letters drawn at random, f of them not understood, is shown as some row or refused with 17. The last
+column has the chance that it is shown with no or one change, a question mark counting as a change unless it is filled in by a q:
+all letters are right and at most one question mark changes, or one letter is wrong and none does."""
 import random
 import subprocess
 import sys
@@ -54,6 +56,12 @@ def share(unknown):
     return near, 32 ** (CHECKS - unknown)
 
 
+def share_with_one_change(unknown):
+    """How many of all rows with so many question marks are near a sound row with at most one change."""
+    some_wrong = 31 * (LENGTH - unknown) if unknown + 2 <= BOUND else 0
+    return (1 + 31 * unknown + some_wrong), 32**CHECKS
+
+
 def garbled(row, unknown, wrong, draw):
     """The row as it is typed, with so many question marks and so many other letters wrong."""
     places = draw.sample(range(LENGTH), unknown + wrong)
@@ -95,10 +103,12 @@ def measure(program, unknown, wrong):
 
 
 def main():
-    print("question marks   wrong letters mended   rows near a sound one   share")
+    print("question marks   wrong letters mended   rows near a sound one   share      with at most one change")
     for unknown in range(BOUND + 1):
         near, of = share(unknown)
-        print(f"{unknown:14}   {(BOUND - unknown) // 2:20}   {near:9} of {of:8}   {100 * near / of:5.1f} %")
+        few, of_all = share_with_one_change(unknown)
+        shares = f"{100 * near / of:5.1f} %   {100 * few / of_all:20.3f} %"
+        print(f"{unknown:14}   {(BOUND - unknown) // 2:20}   {near:9} of {of:8}   {shares}")
     if sys.argv[1:2] == ["run"]:
         print()
         print(f"{ROWS} random rows each")
