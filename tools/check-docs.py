@@ -24,7 +24,7 @@ def crate_files():
 def is_file(word, names):
     """A path below the top or below a crate, or a file's bare name."""
     bare = word.rstrip("/")
-    return bare in names or any(any(TOP.glob(pattern)) for pattern in (bare, f"crates/{bare}", f"crates/*/{bare}"))
+    return bare in names or any(any(TOP.glob(pattern)) for pattern in (bare, f"tools/{bare}", f"crates/{bare}", f"crates/*/{bare}"))
 
 
 def main():
