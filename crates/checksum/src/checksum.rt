@@ -2,6 +2,7 @@
 // written, and proved, for every one.
 ghost use Rattle.std.specs.Prelude.{◌≡◌};
 ghost use Rattle.algebra.specs.Code.{Code, Lawful, bound, checks, generator};
+ghost use Rattle.algebra.specs.NumericCode.{NumericCode, rows_of};
 ghost use Rattle.algebra.specs.Poly.{coeff};
 
 use field::field::{ExtensionField, Field};
@@ -16,6 +17,9 @@ pub trait Checksum {
     type CorrectionField: ExtensionField<BaseField = Self::SymbolField>;
 
     ghost code: { Code Self.SymbolField Self.CorrectionField };
+
+    // The code as its rows know it, symbols being numbers.
+    ghost rows: { NumericCode };
 
     /// k: how many check symbols a row has, which is the degree of the generator polynomial.
     fn checksum_length() -> usize
@@ -45,12 +49,16 @@ pub trait Checksum {
     fn laws()
         ensures alphabet { Self.SymbolField.numbers.size ≡ 32 }
         ensures lawful { Lawful Self.SymbolField.field Self.CorrectionField.field Self.CorrectionField.lifted code };
+
+    // The rows are those of the code.
+    ghost rows_are: { rows ≡ rows_of Self.SymbolField.numbers Self.SymbolField.field code };
 }
 
 /// The bound: as many consecutive roots as there are. A row can be mended where twice its errors and its doubted places
 /// together are at most this.
 pub fn bound<C: Checksum>() -> usize
-    ensures { result ≡ bound C.code }
+    ensures code { result ≡ bound C.code }
+    ensures rows { result ≡ C.rows.bound }
 {
     C::laws();
     let (first, last) = C::root_exponents();

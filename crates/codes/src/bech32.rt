@@ -1,7 +1,7 @@
 // The sheet code: the checksum of bech32 strings, by BIP 173. Six check symbols over GF(32), with roots in GF(1024): a bound
 // of 3, rows of up to 89 symbols.
-ghost use Rattle.std.specs.Prelude.{◌≡◌};
-ghost use Rattle.codes.specs.Bech32.{sheet};
+ghost use Rattle.std.specs.Prelude.{◌≡◌, refl};
+ghost use Rattle.codes.specs.Bech32.{sheet, sheet_rows};
 
 use checksum::checksum::Checksum;
 use gf32::gf32::Fe32;
@@ -23,6 +23,10 @@ impl Checksum for Bech32 {
     type CorrectionField = Fe1024;
 
     ghost code = { sheet };
+
+    ghost rows = { sheet_rows };
+
+    ghost rows_are = { refl };
 
     fn checksum_length() -> usize {
         CHECKSUM_LENGTH

@@ -1,6 +1,6 @@
 // The finish code, which seals the rows of a finish: four check symbols over GF(32), a bound of 4, rows of up to 31 symbols.
-ghost use Rattle.std.specs.Prelude.{◌≡◌};
-ghost use Rattle.codes.specs.Finish.{finish};
+ghost use Rattle.std.specs.Prelude.{◌≡◌, refl};
+ghost use Rattle.codes.specs.Finish.{finish, finish_rows};
 
 use checksum::checksum::Checksum;
 use gf32::gf32::Fe32;
@@ -21,6 +21,10 @@ impl Checksum for Finish {
     type CorrectionField = Fe32;
 
     ghost code = { finish };
+
+    ghost rows = { finish_rows };
+
+    ghost rows_are = { refl };
 
     fn checksum_length() -> usize {
         CHECKSUM_LENGTH

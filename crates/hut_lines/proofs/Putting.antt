@@ -4,7 +4,7 @@ use borrow.Rule.Slice.PartMut.{put_mid}
 use Rattle.std.proofs.lemmas.List.{drop_at, drop-drop, drop-take, length-take-le}
 use Rattle.std.proofs.lemmas.Slice.{drop-put_mid, take-put_mid, take-put_mid_below}
 use Rattle.std.proofs.lemmas.Bool.{cases_eq}
-use Rattle.book.specs.Codes.{Rows}
+use Rattle.algebra.specs.NumericCode.{NumericCode}
 use Rattle.hut_lines.specs.Shown.{Output, Shown}
 
 module _ (out : List ℕ) (k : ℕ) (text : List ℕ) (room : 31 * k + 31 ≤ length out) (long : length text ≡ 31) where
@@ -30,7 +30,7 @@ module _ (out : List ℕ) (k : ℕ) (text : List ℕ) (room : 31 * k + 31 ≤ le
       let here = take-put_mid at ((at + 31) - at) out text (at + 31) (omega arith) (omega arith) in
       sym (drop-take at 31 put) ∙ ap (drop at) here ∙ drop_at (take at out) text at (length-take-le at out (omega arith))
 
-  module _ (C : Rows) (lines : List (List ℕ)) (line written : List ℕ) where
+  module _ (C : NumericCode) (lines : List (List ℕ)) (line written : List ℕ) where
     same_shown : line ≡ get_or lines k [] → text ≡ written → Shown C (k + 1) line written → Shown C (k + 1) (get_or lines k []) text
     same_shown l t shows =
         subst (λ (xs : List ℕ). Shown C (k + 1) xs text) l (subst (λ (bytes : List ℕ). Shown C (k + 1) line bytes) (sym t) shows)
