@@ -10,7 +10,8 @@ use Rattle.algebra.specs.Series.{Mem, here, there}
 use Rattle.algebra.proofs.Members.{all_append, all_map}
 use Rattle.algebra.specs.Rows as rows
 use Rattle.book.specs.Book.{Place, Book, row, doubts, doubted_at}
-use Rattle.book.specs.Codes.{Rows, Lawful, Near}
+use Rattle.algebra.specs.NumericCode.{NumericCode}
+use Rattle.book.specs.Codes.{Lawful, Near}
 use Rattle.book.specs.Mending.{doubtful, wrong, changes_at, changes, subtracted, Different, places, elsewhere, Fits}
 use Rattle.book.specs.declared.record.Record.{Record}
 use Rattle.book.proofs.Subtracting.{changes_subtracted}
@@ -49,18 +50,18 @@ pub all_places : (P : ℕ → Type 0) (cs : List Record) → AllByRecursion (λ 
 all_places P [] h = tt
 all_places P (c ∷ cs) h = (h.0, all_places P cs h.1)
 
-module _ (C : Rows) where
+module _ (C : NumericCode) where
   errors_subtracted : (b : Book) (cs : List Record) (vs : List ℕ) → errors ℕ_discrete b (subtracted C cs vs) ≤ errors ℕ_discrete b vs + elsewhere b cs
   errors_subtracted b [] vs = omega arith
   errors_subtracted b (c ∷ cs) vs =
-      let v = C.less (get_or vs c.place 0) c.change in
+      let v = C.sub (get_or vs c.place 0) c.change in
       let one = errors_set b vs c.place v in
       let rest = errors_subtracted b cs (set vs c.place v) in
       omega (arith, sum_by-cons (λ d. cond (not (doubted_at d.place b)) 1 0) c cs)
 
   pub length_subtracted : (cs : List Record) (vs : List ℕ) → length (subtracted C cs vs) ≡ length vs
   length_subtracted [] vs = refl
-  length_subtracted (c ∷ cs) vs = let v = C.less (get_or vs c.place 0) c.change in length_subtracted cs (set vs c.place v) ∙ length-set vs c.place v
+  length_subtracted (c ∷ cs) vs = let v = C.sub (get_or vs c.place 0) c.change in length_subtracted cs (set vs c.place v) ∙ length-set vs c.place v
 
   pub fits_near : (b : Book) (cs : List Record) → Fits C b cs → Near C b (subtracted C cs (row b))
   fits_near b cs fits = record {
@@ -78,7 +79,7 @@ module _ (C : Rows) where
     abbrev Wanted : Book → List ℕ → ℕ → Record → Type 0
     Wanted [] n j c = ⊥
     Wanted (a ∷ b) [] j c = ⊥
-    Wanted (a ∷ b) (v ∷ n) zero c = (want a v ≡ true) × (c.change ≡ C.less a.symbol v)
+    Wanted (a ∷ b) (v ∷ n) zero c = (want a v ≡ true) × (c.change ≡ C.sub a.symbol v)
     Wanted (a ∷ b) (v ∷ n) (suc j) c = Wanted b n j c
 
     -- the same, its own place being counted from i
@@ -94,7 +95,7 @@ module _ (C : Rows) where
         later c w = let e = w.1 in (suc w.0, omega arith, w.2)
 
         by : (t : Bool) → want a v ≡ t → AllByRecursion (WantedFrom i (a ∷ b) (v ∷ n)) (changes_at want C (i + 1) b n)
-            → AllByRecursion (WantedFrom i (a ∷ b) (v ∷ n)) (cond t (record { place = i; change = C.less a.symbol v } ∷ changes_at want C (i + 1) b n) (changes_at want C (i + 1) b n))
+            → AllByRecursion (WantedFrom i (a ∷ b) (v ∷ n)) (cond t (record { place = i; change = C.sub a.symbol v } ∷ changes_at want C (i + 1) b n) (changes_at want C (i + 1) b n))
         by true q h = ((zero, omega arith, (q, refl)), h)
         by false q h = h
 
@@ -132,7 +133,7 @@ module _ (C : Rows) where
     different_at i (a ∷ b) (v ∷ n) = by (want a v) (different_at (i + 1) b n)
       where
         by : (t : Bool) → Different (places (changes_at want C (i + 1) b n))
-            → Different (places (cond t (record { place = i; change = C.less a.symbol v } ∷ changes_at want C (i + 1) b n) (changes_at want C (i + 1) b n)))
+            → Different (places (cond t (record { place = i; change = C.sub a.symbol v } ∷ changes_at want C (i + 1) b n) (changes_at want C (i + 1) b n)))
         by true d = (all_places (λ q. ¬ (i ≡ q)) (changes_at want C (i + 1) b n) (all_map (λ c. i + 1 ≤ c.place) (λ c. ¬ (i ≡ c.place)) (λ c l e. omega arith) (changes_at want C (i + 1) b n) (all_from_place (i + 1) b n)), d)
         by false d = d
 
@@ -160,13 +161,13 @@ module _ (C : Rows) where
       let same : i ≡ p = omega arith in
       by a.doubted q same
     where
-      by : (d : Bool) → d ≡ true → i ≡ p → Mem p (places (cond d (record { place = i; change = C.less a.symbol v } ∷ changes_at doubtful C (i + 1) b n) (changes_at doubtful C (i + 1) b n)))
+      by : (d : Bool) → d ≡ true → i ≡ p → Mem p (places (cond d (record { place = i; change = C.sub a.symbol v } ∷ changes_at doubtful C (i + 1) b n) (changes_at doubtful C (i + 1) b n)))
       by true q' same = subst (λ t. Mem t (i ∷ places (changes_at doubtful C (i + 1) b n))) same here
       by false q' same = absurd (both_ways false refl q')
   doubted_wanted i (a ∷ b) (v ∷ n) p (suc j) l e q = by a.doubted (doubted_wanted (i + 1) b n p j (omega arith) (omega arith) q)
     where
       by : (d : Bool) → Mem p (places (changes_at doubtful C (i + 1) b n))
-          → Mem p (places (cond d (record { place = i; change = C.less a.symbol v } ∷ changes_at doubtful C (i + 1) b n) (changes_at doubtful C (i + 1) b n)))
+          → Mem p (places (cond d (record { place = i; change = C.sub a.symbol v } ∷ changes_at doubtful C (i + 1) b n) (changes_at doubtful C (i + 1) b n)))
       by true m = there m
       by false m = m
 
@@ -176,7 +177,7 @@ module _ (C : Rows) where
   length_doubted i (a ∷ b) (v ∷ n) l = by a.doubted (length_doubted (i + 1) b n (omega arith))
     where
       by : (d : Bool) → length (changes_at doubtful C (i + 1) b n) ≡ rows.doubts b
-          → length (cond d (record { place = i; change = C.less a.symbol v } ∷ changes_at doubtful C (i + 1) b n) (changes_at doubtful C (i + 1) b n)) ≡ count (d ∷ doubted_places b)
+          → length (cond d (record { place = i; change = C.sub a.symbol v } ∷ changes_at doubtful C (i + 1) b n) (changes_at doubtful C (i + 1) b n)) ≡ count (d ∷ doubted_places b)
       by true h = ap suc h
       by false h = h
 
@@ -186,7 +187,7 @@ module _ (C : Rows) where
   length_wrong i (a ∷ b) (v ∷ n) = by (wrong a v) (length_wrong (i + 1) b n)
     where
       by : (t : Bool) → length (changes_at wrong C (i + 1) b n) ≡ errors ℕ_discrete b n
-          → length (cond t (record { place = i; change = C.less a.symbol v } ∷ changes_at wrong C (i + 1) b n) (changes_at wrong C (i + 1) b n)) ≡ count (t ∷ wrong_places ℕ_discrete b n)
+          → length (cond t (record { place = i; change = C.sub a.symbol v } ∷ changes_at wrong C (i + 1) b n) (changes_at wrong C (i + 1) b n)) ≡ count (t ∷ wrong_places ℕ_discrete b n)
       by true h = ap suc h
       by false h = h
 
@@ -309,10 +310,10 @@ module _ (C : Rows) where
         omega (arith, none, sum, most, long, two, three, split)
 
   -- a symbol that is changed by nothing is the one that was meant
-  same_symbol : Lawful C → (x y : ℕ) → x < C.size → y < C.size → C.less x y ≡ C.nothing → x ≡ y
-  same_symbol law x y hx hy e = sym (law.less_back x x hx hx) ∙ (ap (C.less x) (law.less_itself x ∙ sym e) ∙ law.less_back x y hx hy)
+  same_symbol : Lawful C → (x y : ℕ) → x < C.size → y < C.size → C.sub x y ≡ C.zero → x ≡ y
+  same_symbol law x y hx hy e = sym (law.sub_back x x hx hx) ∙ (ap (C.sub x) (law.sub_itself x ∙ sym e) ∙ law.sub_back x y hx hy)
 
-  wanted_changed : Lawful C → (b : Book) (n : List ℕ) (j : ℕ) (c : Record) → AllByRecursion (λ v. v < C.size) (row b) → AllByRecursion (λ v. v < C.size) n → Wanted wrong b n j c → ¬ (c.change ≡ C.nothing)
+  wanted_changed : Lawful C → (b : Book) (n : List ℕ) (j : ℕ) (c : Record) → AllByRecursion (λ v. v < C.size) (row b) → AllByRecursion (λ v. v < C.size) n → Wanted wrong b n j c → ¬ (c.change ≡ C.zero)
   wanted_changed law [] n j c s t w e = absurd w
   wanted_changed law (a ∷ b) [] j c s t w e = absurd w
   wanted_changed law (a ∷ b) (v ∷ n) zero c s t w e = by a.doubted (ℕ_discrete a.symbol v) w.0 (same_symbol law a.symbol v s.0 t.0 (sym w.1 ∙ e))
@@ -326,7 +327,7 @@ module _ (C : Rows) where
   wanted_symbol : Lawful C → (want : Place → ℕ → Bool) (b : Book) (n : List ℕ) (j : ℕ) (c : Record) → Wanted want b n j c → c.change < C.size
   wanted_symbol law want [] n j c w = absurd w
   wanted_symbol law want (a ∷ b) [] j c w = absurd w
-  wanted_symbol law want (a ∷ b) (v ∷ n) zero c w = let h = law.less_below a.symbol v in let e = w.1 in omega (arith, h, e)
+  wanted_symbol law want (a ∷ b) (v ∷ n) zero c w = let h = law.sub_below a.symbol v in let e = w.1 in omega (arith, h, e)
   wanted_symbol law want (a ∷ b) (v ∷ n) (suc j) c w = wanted_symbol law want b n j c w
 
   mem_front : {p : ℕ} (cs ds : List Record) → Mem p (places cs) → Mem p (places (cs ++ ds))
@@ -342,9 +343,9 @@ module _ (C : Rows) where
         on_slip = all_places (λ p. p < length b) (changes C b n) (all_changes b n (λ c. c.place < length b) (λ c w. wanted_below doubtful b n c.place c w) (λ c w. wanted_below wrong b n c.place c w));
         symbols = all_changes b n (λ c. c.change < C.size) (λ c w. wanted_symbol law doubtful b n c.place c w) (λ c w. wanted_symbol law wrong b n c.place c w);
         doubted = λ p q. mem_front (at_doubts b n) (at_last b n ++ at_others b n) (doubted_wanted 0 b n p p near.same_length (omega arith) q);
-        changed = all_changes b n (λ c. doubted_at c.place b ≡ false → ¬ (c.change ≡ C.nothing))
+        changed = all_changes b n (λ c. doubted_at c.place b ≡ false → ¬ (c.change ≡ C.zero))
             (λ c w q. absurd (both_ways (doubted_at c.place b) q (wanted_doubtful b n c.place c w)))
             (λ c w q. wanted_changed law b n c.place c below symbols w);
         within = let few = elsewhere_changes b n in let close = near.close in omega (arith, few, close);
-        sound = subst (λ m. C.sound m ≡ true) (sym (changes_subtracted C law b n below near)) near.sound;
+        sound = subst (λ m. C.is_sound m ≡ true) (sym (changes_subtracted C law b n below near)) near.sound;
       }

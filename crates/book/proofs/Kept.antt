@@ -4,14 +4,15 @@ use native.Mathlib.Decide.{ℕ_discrete}
 use Rattle.algebra.proofs.Near.{one_more_doubt_by}
 use Rattle.book.specs.Book.{Book, mark, after}
 use Rattle.book.specs.Calls.{Answer, Follows, Mends, said, lists, settled, done, listed, doubt, solve, settle, barred, none_near, one_near, doubting, solves, settles}
-use Rattle.book.specs.Codes.{Rows, Lawful, Near, Sound}
+use Rattle.algebra.specs.NumericCode.{NumericCode}
+use Rattle.book.specs.Codes.{Lawful, Near, Sound}
 use Rattle.book.specs.Promise.{Refused, Workable, Solved, Settled, Gives, GivesOnly, Promise}
 use Rattle.book.specs.SlipFaults as slip
 use Rattle.book.specs.declared.record.Record.{Record}
 use Rattle.book.specs.declared.slip_fault.SlipFault.TheVariants.{Absent}
 use Rattle.book.proofs.Same.{same, within, workable}
 
-gives : (C : Rows) → Lawful C → (b : Book) (n : List ℕ) (r w : ℕ) → Workable C r w b → Near C b n → Gives C r w b n
+gives : (C : NumericCode) → Lawful C → (b : Book) (n : List ℕ) (r w : ℕ) → Workable C r w b → Near C b n → Gives C r w b n
 gives C law b n r w f x =
     let open-to = workable C r w b f (omega (arith, x.close)) in
     record {
@@ -20,12 +21,12 @@ gives C law b n r w f x =
     }
 
 -- where no row is near, a search refuses and gives none
-refused_mends : {C : Rows} {r w : ℕ} {b : Book} {a : Answer} {found : Option (List ℕ)} → ((n : List ℕ) → ¬ Near C b n) → Mends C r w b a found → Refused a × (found ≡ None)
+refused_mends : {C : NumericCode} {r w : ℕ} {b : Book} {a : Answer} {found : Option (List ℕ)} → ((n : List ℕ) → ¬ Near C b n) → Mends C r w b a found → Refused a × (found ≡ None)
 refused_mends none (barred e) = ((_, refl), refl)
 refused_mends none (none_near e _) = ((_, refl), refl)
 refused_mends none (one_near e x) = absurd (none _ x)
 
-refuses : (C : Rows) (b : Book) → ((n : List ℕ) → ¬ Near C b n) → (r w : ℕ) (a : Answer) (next : Book)
+refuses : (C : NumericCode) (b : Book) → ((n : List ℕ) → ¬ Near C b n) → (r w : ℕ) (a : Answer) (next : Book)
     → Follows b (solve C r w) a next ⊎ Follows b (settle C r w) a next → Refused a × (next ≡ b)
 refuses C b none r w a next (inl (solves m)) = ((refused_mends none m).0, refl)
 refuses C b none r w a next (inr (settles m)) = let why = refused_mends none m in (why.0, ap (settled b) why.1)
@@ -39,10 +40,10 @@ doubt_marks {b} {p} doubting e = by (leb (length b) p) e
     by false e = refl
 
 -- a search answers with n alone, or refuses
-abbrev MendsOnly : Rows → Book → List ℕ → Answer → Option (List ℕ) → Type 0
+abbrev MendsOnly : NumericCode → Book → List ℕ → Answer → Option (List ℕ) → Type 0
 MendsOnly C b n a found = Refused a ⊎ ((a ≡ lists C b n) × (found ≡ Some n))
 
-module _ (C : Rows) (law : Lawful C) (b : Book) (n : List ℕ) (short : length b ≤ C.limit) (x : Near C b n) where
+module _ (C : NumericCode) (law : Lawful C) (b : Book) (n : List ℕ) (short : length b ≤ C.limit) (x : Near C b n) where
   mends_after : (p : ℕ) {r w : ℕ} {d : Book} {a : Answer} {found : Option (List ℕ)} → d ≡ mark p b → Mends C r w d a found → MendsOnly C d n a found
   mends_after p q (barred e) = inl (_, refl)
   mends_after p q (none_near e _) = inl (_, refl)
@@ -56,7 +57,7 @@ module _ (C : Rows) (law : Lawful C) (b : Book) (n : List ℕ) (short : length b
   settled_after : (p : ℕ) {r w : ℕ} {d : Book} → d ≡ mark p b → (a : Answer) (next : Book) → Follows d (settle C r w) a next → Refused a ⊎ Settled C d n a next
   settled_after p {d = d} q a next (settles m) = elim (mends_after p q m) [ inl why ↦ inl why | inr one ↦ inr (one.0, ap (settled d) one.1) ]
 
-one_more : (C : Rows) → Lawful C → (b next : Book) (r w : ℕ) (cs : List Record) (i j : ℕ) → Follows b (solve C r w) (listed cs i j) next
+one_more : (C : NumericCode) → Lawful C → (b next : Book) (r w : ℕ) (cs : List Record) (i j : ℕ) → Follows b (solve C r w) (listed cs i j) next
     → (n : List ℕ) × Near C b n × Solved C b n (listed cs i j) next
     × ((p : ℕ) (doubted : Book) → Follows next (doubt p) done doubted → (r' w' : ℕ) → GivesOnly C r' w' doubted n)
 one_more C law b next r w cs i j (solves (one_near {n = n} e x)) =
@@ -71,5 +72,5 @@ one_more C law b next r w cs i j (solves (one_near {n = n} e x)) =
           },
     )
 
-pub promise : (C : Rows) → Lawful C → Promise C
+pub promise : (C : NumericCode) → Lawful C → Promise C
 promise C law = record { restores = gives C law; refuses = refuses C; one_more = one_more C law }

@@ -3,8 +3,8 @@
 --   rows_lawful   what is asked of a code's rows holds of every lawful code
 --   near_elements a row near by numbers is near by elements
 --   rows_sealed   the seal of a row, by numbers
-use Rattle.std.specs.List.{AllByRecursion}
-use Rattle.std.proofs.Common.{◌≡◌, ℕ, ◌<◌, ◌≤◌, true, not, ◌&&◌, ltb, List, [], ◌∷◌, ◌++◌, map, length, sym, refl, ap, ◌∙◌, ap₂, arith}
+use Rattle.std.specs.List.{AllByRecursion, list_all}
+use Rattle.std.proofs.Common.{◌≡◌, ℕ, ◌<◌, ◌≤◌, true, not, ◌&&◌, ltb, List, [], ◌∷◌, ◌++◌, map, length, sym, refl, ap, ◌∙◌, subst, ap₂, arith}
 use native.Mathlib.Decide.{ℕ_discrete}
 use lib.ListN.{length-map}
 use Rattle.std.proofs.lemmas.List.{map-append}
@@ -19,15 +19,16 @@ use Rattle.algebra.proofs.Members.{all_append, all_right}
 use Rattle.algebra.proofs.Sealing.{length_seal, seal_only, sealed_sound}
 use Rattle.algebra.proofs.Solver.{◌:-◌, v0, v1, solve}
 use Rattle.book.specs.Book.{Book, marks, row}
-use Rattle.book.specs.Codes.{Lawful, Near, Seals, Sound, alike, all_below, rows_of}
+use Rattle.algebra.specs.NumericCode.{NumericCode, alike, rows_of}
+use Rattle.book.specs.Codes.{Lawful, Near, Seals, Sound}
 
-pub all_below_all : (size : ℕ) (n : List ℕ) → all_below size n ≡ true → AllByRecursion (λ v. v < size) n
+pub all_below_all : (size : ℕ) (n : List ℕ) → list_all (λ v. ltb v size) n ≡ true → AllByRecursion (λ v. v < size) n
 all_below_all size [] h = tt
-all_below_all size (v ∷ n) h = let both = and_parts (ltb v size) (all_below size n) h in (ltb-true v size both.0, all_below_all size n both.1)
+all_below_all size (v ∷ n) h = let both = and_parts (ltb v size) (list_all (λ v. ltb v size) n) h in (ltb-true v size both.0, all_below_all size n both.1)
 
-all_all_below : (size : ℕ) (n : List ℕ) → AllByRecursion (λ v. v < size) n → all_below size n ≡ true
+all_all_below : (size : ℕ) (n : List ℕ) → AllByRecursion (λ v. v < size) n → list_all (λ v. ltb v size) n ≡ true
 all_all_below size [] h = refl
-all_all_below size (v ∷ n) h = and_from (ltb v size) (all_below size n) (lt-ltb v size h.0) (all_all_below size n h.1)
+all_all_below size (v ∷ n) h = and_from (ltb v size) (list_all (λ v. ltb v size) n) (lt-ltb v size h.0) (all_all_below size n h.1)
 
 module _ {S : Type 0} (discrete : (x y : S) → Dec (x ≡ y)) where
   same_symbol : (x y : S) → not (other discrete x y) ≡ true → x ≡ y
@@ -121,14 +122,14 @@ module _ {S : Type 0} (N : Numbers S) where
 
 module _ {S E : Type 0} (N : Numbers S) (s : FieldOn S) (C : Code S E) where
   pub sound_below : (n : List ℕ) → Sound (rows_of N s C) n → Below N n
-  sound_below n h = all_below_all N.size n (and_parts (all_below N.size n) (alike s.discrete (residue s C (elements N n)) C.target) h).0
+  sound_below n h = all_below_all N.size n (and_parts (list_all (λ v. ltb v N.size) n) (alike s.discrete (residue s C (elements N n)) C.target) h).0
 
   pub sound_elements : (n : List ℕ) → Sound (rows_of N s C) n → code.Sound s C (elements N n)
-  sound_elements n h = alike_one s.discrete (residue s C (elements N n)) C.target (and_parts (all_below N.size n) (alike s.discrete (residue s C (elements N n)) C.target) h).1
+  sound_elements n h = alike_one s.discrete (residue s C (elements N n)) C.target (and_parts (list_all (λ v. ltb v N.size) n) (alike s.discrete (residue s C (elements N n)) C.target) h).1
 
   pub elements_sound : (n : List ℕ) → Below N n → code.Sound s C (elements N n) → Sound (rows_of N s C) n
   elements_sound n h k =
-      and_from (all_below N.size n) (alike s.discrete (residue s C (elements N n)) C.target)
+      and_from (list_all (λ v. ltb v N.size) n) (alike s.discrete (residue s C (elements N n)) C.target)
       (all_all_below N.size n h) (ap (λ t. alike s.discrete t C.target) k ∙ one_alike s.discrete C.target)
 
   pub near_elements : (b : Book) (n : List ℕ) → Below N (row b) → Near (rows_of N s C) b n → rows.Near s C (in_elements N b) (elements N n)
@@ -163,8 +164,8 @@ module _ {S E : Type 0} (N : Numbers S) (s : FieldOn S) (C : Code S E) where
               (ap (residue s C) (map-append N.element r (map N.number cs) ∙ ap (λ t. elements N r ++ t) (elements_numbers N cs)) ∙ sealed_sound s C target_length (elements N r));
         }
 
-  less_back : (x y : ℕ) → x < N.size → y < N.size → (rows_of N s C).less x ((rows_of N s C).less x y) ≡ y
-  less_back x y h k =
+  sub_back : (x y : ℕ) → x < N.size → y < N.size → (rows_of N s C).sub x ((rows_of N s C).sub x y) ≡ y
+  sub_back x y h k =
       let u = N.element x in
       let v = N.element y in
       ap (λ t. N.number (s.add u (s.neg t))) (N.element_number (s.add u (s.neg v)))
@@ -172,19 +173,19 @@ module _ {S E : Type 0} (N : Numbers S) (s : FieldOn S) (C : Code S E) where
       ∙ N.number_element y k
 
 module _ {S E : Type 0} (N : Numbers S) (s : FieldOn S) (e : FieldOn E) (up : S → E) (L : Lifts s e up) (C : Code S E) (lawful : code.Lawful s e up C) where
-  pub rows_sealed : (r : List ℕ) → Below N r → Seals (rows_of N s C) r (map N.number (seal s C (elements N r)))
-  rows_sealed = rows_sealed_by N s C lawful.target_length
+  pub rows_sealed : (rows_C : NumericCode) → rows_C ≡ rows_of N s C → (r : List ℕ) → Below N r → Seals rows_C r (map N.number (seal s C (elements N r)))
+  rows_sealed rows_C is r h = subst (λ k. Seals k r (map N.number (seal s C (elements N r)))) (sym is) (rows_sealed_by N s C lawful.target_length r h)
 
-  pub rows_lawful : N.size ≡ 32 → Lawful (rows_of N s C)
-  rows_lawful alphabet = record {
+  rows_of_lawful : N.size ≡ 32 → Lawful (rows_of N s C)
+  rows_of_lawful alphabet = record {
     alphabet = alphabet;
     bound_small = lawful.bound_small;
     apart = apart;
     one_seal = one_seal N s C lawful.target_length;
     symbols = sound_below N s C;
-    less_below = λ x y. N.below (s.add (N.element x) (s.neg (N.element y)));
-    less_back = less_back N s C;
-    less_itself = λ x. ap N.number (s.add_neg (N.element x));
+    sub_below = λ x y. N.below (s.add (N.element x) (s.neg (N.element y)));
+    sub_back = sub_back N s C;
+    sub_itself = λ x. ap N.number (s.add_neg (N.element x));
   }
     where
       apart : (v w : List ℕ) → Sound (rows_of N s C) v → Sound (rows_of N s C) w → length v ≡ length w → length v ≤ C.limit
@@ -196,3 +197,6 @@ module _ {S E : Type 0} (N : Numbers S) (s : FieldOn S) (e : FieldOn E) (up : S 
           let bw = sound_below N s C w hw in
           let counted : rows.differ ℕ_discrete v w ≡ rows.differ s.discrete (elements N v) (elements N w) = ap count (differing_elements N s.discrete v w bv bw) in
           elements_one N v w bv bw (few_differ s e up L C lawful (elements N v) (elements N w) (sound_elements N s C v hv) (sound_elements N s C w hw) (lv ∙ same ∙ sym lw) (omega arith) (omega arith))
+
+  pub rows_lawful : (rows_C : NumericCode) → rows_C ≡ rows_of N s C → N.size ≡ 32 → Lawful rows_C
+  rows_lawful rows_C is alphabet = subst Lawful (sym is) (rows_of_lawful alphabet)

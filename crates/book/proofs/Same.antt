@@ -7,7 +7,8 @@ use Rattle.std.proofs.lemmas.Bool.{le-ltb, lt-leb, ltb-false}
 use Rattle.algebra.proofs.Near.{one_near_by}
 use Rattle.book.specs.Book.{Book, sure, doubts}
 use Rattle.book.specs.Calls.{Call, Answer, Follows, Mends, lists, settled, first_of, unmendable, write, blank, doubt, wipe, seal, solve, settle, barred, none_near, one_near, writes, blanks, doubting, wipes, unsealed, seals, solves, settles}
-use Rattle.book.specs.Codes.{Rows, Lawful, Near, Sound}
+use Rattle.algebra.specs.NumericCode.{NumericCode}
+use Rattle.book.specs.Codes.{Lawful, Near, Sound}
 use Rattle.book.specs.Promise.{Workable}
 use Rattle.book.specs.declared.code_fault.CodeFault.{CodeFault}
 use Rattle.book.specs.declared.code_fault.CodeFault.TheVariants.{Short, Long, Records, Working, Doubts}
@@ -26,7 +27,7 @@ fails [] e = tt
 fails ((true, fault) ∷ ts) e = absurd (clash refl e)
 fails ((false, fault) ∷ ts) e = (refl, fails ts e)
 
-module _ (C : Rows) (r w : ℕ) (b : Book) where
+module _ (C : NumericCode) (r w : ℕ) (b : Book) where
   -- a row that is searched is within the limit
   pub within : unmendable C r w b ≡ None → length b ≤ C.limit
   within e =
@@ -47,11 +48,11 @@ module _ (C : Rows) (r w : ℕ) (b : Book) where
       )
 
 -- within the limit no second row is near
-pub one_near_row : (C : Rows) → Lawful C → (b : Book) (n m : List ℕ) → length b ≤ C.limit → Near C b n → Near C b m → n ≡ m
+pub one_near_row : (C : NumericCode) → Lawful C → (b : Book) (n m : List ℕ) → length b ≤ C.limit → Near C b n → Near C b m → n ≡ m
 one_near_row C law b n m short hn hm = sym (one_near_by ℕ_discrete (Sound C) C.bound C.limit law.apart b n m short hn hm)
 
 -- a search has one answer, and gives one row
-pub same_mends : {C : Rows} {r w : ℕ} {b : Book} {a a' : Answer} {found found' : Option (List ℕ)} → Lawful C
+pub same_mends : {C : NumericCode} {r w : ℕ} {b : Book} {a a' : Answer} {found found' : Option (List ℕ)} → Lawful C
     → Mends C r w b a found → Mends C r w b a' found' → (a ≡ a') × (found ≡ found')
 same_mends law (barred e) (barred f) = (cc, refl)
 same_mends law (barred e) (none_near f _) = absurd (clash e f)

@@ -6,7 +6,8 @@ use Rattle.std.proofs.lemmas.List.{get_or_at, set_at, length-map, length_push, l
 use Rattle.std.proofs.lemmas.Bool.{both_ways}
 use Rattle.algebra.specs.Rows.{refuted}
 use Rattle.book.specs.Book.{Place, Book, row}
-use Rattle.book.specs.Codes.{Rows, Lawful, Near}
+use Rattle.algebra.specs.NumericCode.{NumericCode}
+use Rattle.book.specs.Codes.{Lawful, Near}
 use Rattle.book.specs.Mending.{doubtful, wrong, changes_at, changes, subtracted}
 use Rattle.book.specs.declared.record.Record.{Record}
 
@@ -90,17 +91,17 @@ module _ (want : Place → ℕ → Bool) where
   agrees_drop (suc k) (a ∷ b) (v ∷ n) [] g = absurd g
   agrees_drop (suc k) (a ∷ b) (v ∷ n) (x ∷ xs) g = agrees_drop k b n xs g.1
 
-module _ (C : Rows) where
+module _ (C : NumericCode) where
   -- each symbol less its change is the symbol that was meant
   abbrev Backed : Book → List ℕ → Type 0
   Backed [] n = Unit {0}
   Backed (a ∷ b) [] = Unit {0}
-  Backed (a ∷ b) (v ∷ n) = (C.less a.symbol (C.less a.symbol v) ≡ v) × Backed b n
+  Backed (a ∷ b) (v ∷ n) = (C.sub a.symbol (C.sub a.symbol v) ≡ v) × Backed b n
 
   backed_symbols : Lawful C → (b : Book) (n : List ℕ) → AllByRecursion (λ v. v < C.size) (row b) → AllByRecursion (λ v. v < C.size) n → Backed b n
   backed_symbols law [] n s t = tt
   backed_symbols law (a ∷ b) [] s t = tt
-  backed_symbols law (a ∷ b) (v ∷ n) s t = (law.less_back a.symbol v s.0 t.0, backed_symbols law b n s.1 t.1)
+  backed_symbols law (a ∷ b) (v ∷ n) s t = (law.sub_back a.symbol v s.0 t.0, backed_symbols law b n s.1 t.1)
 
   backed_take : (k : ℕ) (b : Book) (n : List ℕ) → Backed b n → Backed (take k b) (take k n)
   backed_take zero b n s = tt
@@ -120,7 +121,7 @@ module _ (C : Rows) where
 
   pub subtracted_append : (cs ds : List Record) (xs : List ℕ) → subtracted C (cs ++ ds) xs ≡ subtracted C ds (subtracted C cs xs)
   subtracted_append [] ds xs = refl
-  subtracted_append (c ∷ cs) ds xs = subtracted_append cs ds (set xs c.place (C.less (get_or xs c.place 0) c.change))
+  subtracted_append (c ∷ cs) ds xs = subtracted_append cs ds (set xs c.place (C.sub (get_or xs c.place 0) c.change))
 
   module _ (want : Place → ℕ → Bool) where
     off_at : (b : Book) (n pre xs post : List ℕ) → Backed b n → Agrees want b n xs
@@ -135,13 +136,13 @@ module _ (C : Rows) where
             ap₂ (λ i zs. subtracted C (changes_at want C i b n) zs) (sym (length_push pre y)) (sym (append_assoc pre (y ∷ []) (xs ++ post)))
             ∙ (again (pre ++ y ∷ []) ∙ append_assoc pre (y ∷ []) (mixed want b n xs ++ post))
 
-        put : x ≡ a.symbol → set (pre ++ x ∷ (xs ++ post)) (length pre) (C.less (get_or (pre ++ x ∷ (xs ++ post)) (length pre) 0) (C.less a.symbol v)) ≡ pre ++ v ∷ (xs ++ post)
+        put : x ≡ a.symbol → set (pre ++ x ∷ (xs ++ post)) (length pre) (C.sub (get_or (pre ++ x ∷ (xs ++ post)) (length pre) 0) (C.sub a.symbol v)) ≡ pre ++ v ∷ (xs ++ post)
         put q =
             set_at pre x (xs ++ post) _ (length pre) refl
-            ∙ ap (λ y. pre ++ y ∷ (xs ++ post)) (ap (λ z. C.less z (C.less a.symbol v)) (get_or_at pre x (xs ++ post) 0 (length pre) refl ∙ q) ∙ s.0)
+            ∙ ap (λ y. pre ++ y ∷ (xs ++ post)) (ap (λ z. C.sub z (C.sub a.symbol v)) (get_or_at pre x (xs ++ post) 0 (length pre) refl ∙ q) ∙ s.0)
 
         by : (t : Bool) → (t ≡ true → x ≡ a.symbol) → ((p : List ℕ) → subtracted C (changes_at want C (length p) b n) (p ++ (xs ++ post)) ≡ p ++ (mixed want b n xs ++ post))
-            → subtracted C (cond t (record { place = length pre; change = C.less a.symbol v } ∷ changes_at want C (length pre + 1) b n) (changes_at want C (length pre + 1) b n)) (pre ++ x ∷ (xs ++ post))
+            → subtracted C (cond t (record { place = length pre; change = C.sub a.symbol v } ∷ changes_at want C (length pre + 1) b n) (changes_at want C (length pre + 1) b n)) (pre ++ x ∷ (xs ++ post))
             ≡ pre ++ cond t v x ∷ (mixed want b n xs ++ post)
         by true q again = ap (subtracted C (changes_at want C (length pre + 1) b n)) (put (q refl)) ∙ next v again
         by false q again = next x again

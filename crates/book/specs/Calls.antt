@@ -8,7 +8,8 @@ use Rattle.std.specs.Prelude.{◌≡◌, ℕ, ◌+◌, ◌*◌, Bool, cond, List
 use Rattle.field.specs.declared.fault.Refusal.{Refusal}
 use Rattle.book.specs.Book as book
 use Rattle.book.specs.Book.{Book, sure, row, doubts, fresh, after}
-use Rattle.book.specs.Codes.{Rows, Near, Seals}
+use Rattle.algebra.specs.NumericCode.{NumericCode}
+use Rattle.book.specs.Codes.{Near, Seals}
 use Rattle.book.specs.CodeFaults as code
 use Rattle.book.specs.Mending.{changes, nonzero}
 use Rattle.book.specs.SlipFaults as slip
@@ -21,9 +22,9 @@ pub data Call : Type 0 where
   blank : Call
   doubt : ℕ → Call
   wipe : Call
-  seal : Rows → Call
-  solve : Rows → ℕ → ℕ → Call
-  settle : Rows → ℕ → ℕ → Call
+  seal : NumericCode → Call
+  solve : NumericCode → ℕ → ℕ → Call
+  settle : NumericCode → ℕ → ℕ → Call
 
 pub data Answer : Type 0 where
   done : Answer
@@ -36,22 +37,22 @@ said told (Ok _) = done
 said told (Err fault) = refused (told fault)
 
 -- the answer that lists how a book's row becomes n
-abbrev pub lists : Rows → Book → List ℕ → Answer
+abbrev pub lists : NumericCode → Book → List ℕ → Answer
 lists C b n = listed (changes C b n) (length (changes C b n)) (nonzero C (changes C b n))
 
 abbrev pub first_of : List (Bool × CodeFault) → Option CodeFault
 first_of [] = None
 first_of (t ∷ ts) = cond t.0 (Some t.1) (first_of ts)
 
-abbrev pub unsealable : Rows → Book → Option CodeFault
+abbrev pub unsealable : NumericCode → Book → Option CodeFault
 unsealable C b = first_of (((length b == 0), Short) ∷ (nat_lt C.limit (length b + C.checks), Long) ∷ [])
 
-abbrev pub unmendable : Rows → ℕ → ℕ → Book → Option CodeFault
+abbrev pub unmendable : NumericCode → ℕ → ℕ → Book → Option CodeFault
 unmendable C r w b = first_of
     ((nat_le (length b) C.checks, Short) ∷ (nat_lt C.limit (length b), Long) ∷ (nat_lt r C.bound, Records)
     ∷ (nat_lt w (12 * (C.bound + 2)), Working) ∷ (nat_lt C.bound (doubts b), Doubts) ∷ [])
 
-pub data Mends (C : Rows) (r w : ℕ) (b : Book) : Answer → Option (List ℕ) → Type 0 where
+pub data Mends (C : NumericCode) (r w : ℕ) (b : Book) : Answer → Option (List ℕ) → Type 0 where
   barred : {fault : CodeFault} → unmendable C r w b ≡ Some fault → Mends C r w b (refused (code.told fault)) None
   none_near : unmendable C r w b ≡ None → ((n : List ℕ) → ¬ Near C b n) → Mends C r w b (refused (code.told Unfit)) None
   one_near : {n : List ℕ} → unmendable C r w b ≡ None → Near C b n → Mends C r w b (lists C b n) (Some n)
@@ -66,7 +67,7 @@ pub data Follows : Book → Call → Answer → Book → Type 0 where
   blanks : {b : Book} → Follows b blank (said slip.told (book.blank b)) (after b (book.blank b))
   doubting : {b : Book} {p : ℕ} → Follows b (doubt p) (said slip.told (book.doubt p b)) (after b (book.doubt p b))
   wipes : {b : Book} → Follows b wipe done fresh
-  unsealed : {b : Book} {C : Rows} {fault : CodeFault} → unsealable C b ≡ Some fault → Follows b (seal C) (refused (code.told fault)) b
-  seals : {b : Book} {C : Rows} {cs : List ℕ} → unsealable C b ≡ None → Seals C (row b) cs → Follows b (seal C) done (b ++ map sure cs)
-  solves : {b : Book} {C : Rows} {r w : ℕ} {a : Answer} {found : Option (List ℕ)} → Mends C r w b a found → Follows b (solve C r w) a b
-  settles : {b : Book} {C : Rows} {r w : ℕ} {a : Answer} {found : Option (List ℕ)} → Mends C r w b a found → Follows b (settle C r w) a (settled b found)
+  unsealed : {b : Book} {C : NumericCode} {fault : CodeFault} → unsealable C b ≡ Some fault → Follows b (seal C) (refused (code.told fault)) b
+  seals : {b : Book} {C : NumericCode} {cs : List ℕ} → unsealable C b ≡ None → Seals C (row b) cs → Follows b (seal C) done (b ++ map sure cs)
+  solves : {b : Book} {C : NumericCode} {r w : ℕ} {a : Answer} {found : Option (List ℕ)} → Mends C r w b a found → Follows b (solve C r w) a b
+  settles : {b : Book} {C : NumericCode} {r w : ℕ} {a : Answer} {found : Option (List ℕ)} → Mends C r w b a found → Follows b (settle C r w) a (settled b found)

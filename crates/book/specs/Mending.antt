@@ -9,7 +9,8 @@ use Rattle.std.proofs.Math.Decide.{ℕ_discrete}
 use Rattle.algebra.specs.Rows as rows
 use Rattle.algebra.specs.Series.{Mem}
 use Rattle.book.specs.Book.{Place, Book, row, doubts, doubted_at}
-use Rattle.book.specs.Codes.{Rows, Sound}
+use Rattle.algebra.specs.NumericCode.{NumericCode}
+use Rattle.book.specs.Codes.{Sound}
 use Rattle.book.specs.declared.record.Record.{Record}
 
 -- is a place doubted? is it undoubted, with another symbol than v?
@@ -20,26 +21,26 @@ abbrev pub wrong : Place → ℕ → Bool
 wrong a v = rows.wrong ℕ_discrete a v
 
 -- the changes to n at the places that are wanted, ascending, the first being place i
-abbrev pub changes_at : (Place → ℕ → Bool) → Rows → ℕ → Book → List ℕ → List Record
+abbrev pub changes_at : (Place → ℕ → Bool) → NumericCode → ℕ → Book → List ℕ → List Record
 changes_at want C i [] n = []
 changes_at want C i (a ∷ b) [] = []
 changes_at want C i (a ∷ b) (v ∷ n) =
-    cond (want a v) (record { place = i; change = C.less a.symbol v } ∷ changes_at want C (i + 1) b n) (changes_at want C (i + 1) b n)
+    cond (want a v) (record { place = i; change = C.sub a.symbol v } ∷ changes_at want C (i + 1) b n) (changes_at want C (i + 1) b n)
 
 -- doubted places ascending; then the last place, if it is wrong; then the other wrong places ascending
-abbrev pub changes : Rows → Book → List ℕ → List Record
+abbrev pub changes : NumericCode → Book → List ℕ → List Record
 changes C b n =
     let last = length b - 1 in
     changes_at doubtful C 0 b n
     ++ (changes_at wrong C last (drop last b) (drop last n)
     ++ changes_at wrong C 0 (take last b) (take last n))
 
-abbrev pub nonzero : Rows → List Record → ℕ
-nonzero C cs = count_by (λ c. not (c.change == C.nothing)) cs
+abbrev pub nonzero : NumericCode → List Record → ℕ
+nonzero C cs = count_by (λ c. not (c.change == C.zero)) cs
 
-abbrev pub subtracted : Rows → List Record → List ℕ → List ℕ
+abbrev pub subtracted : NumericCode → List Record → List ℕ → List ℕ
 subtracted C [] vs = vs
-subtracted C (c ∷ cs) vs = subtracted C cs (slice_set vs c.place (C.less (slice_index vs c.place) c.change))
+subtracted C (c ∷ cs) vs = subtracted C cs (slice_set vs c.place (C.sub (slice_index vs c.place) c.change))
 
 -- no number stands twice in a list
 abbrev pub Different : List ℕ → Type 0
@@ -53,12 +54,12 @@ places cs = map (λ c. c.place) cs
 abbrev pub elsewhere : Book → List Record → ℕ
 elsewhere b cs = count_by (λ c. not (doubted_at c.place b)) cs
 
-pub record Fits (C : Rows) (b : Book) (cs : List Record) : Type 0 where
+pub record Fits (C : NumericCode) (b : Book) (cs : List Record) : Type 0 where
   pub distinct : Different (places cs)
   pub on_slip : AllByRecursion (λ p. p < length b) (places cs)
   pub symbols : AllByRecursion (λ c. c.change < C.size) cs
   -- each doubted place has its change, and each change at another place changes something
   pub doubted : (p : ℕ) → doubted_at p b ≡ true → Mem p (places cs)
-  pub changed : AllByRecursion (λ c. doubted_at c.place b ≡ false → ¬ (c.change ≡ C.nothing)) cs
+  pub changed : AllByRecursion (λ c. doubted_at c.place b ≡ false → ¬ (c.change ≡ C.zero)) cs
   pub within : 2 * elsewhere b cs + doubts b ≤ C.bound
   pub sound : Sound C (subtracted C cs (row b))

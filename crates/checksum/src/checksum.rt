@@ -2,6 +2,7 @@
 // written, and proved, for every one.
 ghost use Rattle.std.specs.Prelude.{◌≡◌, ℕ};
 ghost use Rattle.algebra.specs.Code.{Code, Lawful, bound, checks, generator};
+ghost use Rattle.algebra.specs.NumericCode.{NumericCode, rows_of};
 ghost use Rattle.algebra.specs.Poly.{coeff};
 
 use field::field::{ExtensionField, Field};
@@ -24,6 +25,9 @@ pub trait Checksum {
     ghost ROOT_GENERATOR: { Self.CorrectionField };
 
     ghost ROOT_EXPONENTS: { ℕ × ℕ };
+
+    // The code as its rows know it, symbols being numbers.
+    ghost rows: { NumericCode };
 
     /// k: how many check symbols a row has, which is the degree of the generator polynomial.
     const CHECKSUM_LENGTH: usize;
@@ -57,12 +61,16 @@ pub trait Checksum {
     ghost root_generator_is: { ROOT_GENERATOR ≡ code.root };
 
     ghost root_exponents_are: { ROOT_EXPONENTS ≡ (code.first, code.last) };
+
+    // The rows are those of the code.
+    ghost rows_are: { rows ≡ rows_of Self.SymbolField.numbers Self.SymbolField.field code };
 }
 
 /// The bound: as many consecutive roots as there are. A row can be mended where twice its errors and its doubted places
 /// together are at most this.
 pub fn bound<C: Checksum>() -> usize
-    ensures { result ≡ bound C.code }
+    ensures code { result ≡ bound C.code }
+    ensures rows { result ≡ C.rows.bound }
 {
     C::laws();
     let (first, last) = C::ROOT_EXPONENTS;

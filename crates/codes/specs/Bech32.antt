@@ -3,7 +3,8 @@
 use Rattle.std.specs.Prelude.{[], ◌∷◌}
 use Rattle.std.proofs.Common.{lit<}
 use Rattle.algebra.specs.Code.{Code, one}
-use Rattle.gf32.specs.Gf32.{fe, gf32}
+use Rattle.algebra.specs.NumericCode.{NumericCode, rows_of}
+use Rattle.gf32.specs.Gf32.{fe, gf32, gf32_numbers}
 use Rattle.gf32.specs.declared.gf32.Fe32.{Fe32}
 use Rattle.gf32_ext.specs.Gf1024.{fe1024}
 use Rattle.gf32_ext.specs.declared.fe1024.Fe1024.{Fe1024}
@@ -17,3 +18,7 @@ sheet = record {
   last = 26;
   limit = 89;
 }
+
+-- the code as its rows know it
+abbrev pub sheet_rows : NumericCode
+sheet_rows = rows_of gf32_numbers gf32 sheet

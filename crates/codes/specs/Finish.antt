@@ -2,8 +2,9 @@
 use Rattle.std.specs.Prelude.{[], ◌∷◌}
 use Rattle.std.proofs.Common.{lit<}
 use Rattle.algebra.specs.Code.{Code, one}
+use Rattle.algebra.specs.NumericCode.{NumericCode, rows_of}
 use Rattle.gf32.specs.declared.gf32.Fe32.{Fe32}
-use Rattle.gf32.specs.Gf32.{fe, gf32}
+use Rattle.gf32.specs.Gf32.{fe, gf32, gf32_numbers}
 
 unfoldable pub finish : Code Fe32 Fe32
 finish = record {
@@ -14,3 +15,7 @@ finish = record {
   last = 4;
   limit = 31;
 }
+
+-- the code as its rows know it
+abbrev pub finish_rows : NumericCode
+finish_rows = rows_of gf32_numbers gf32 finish

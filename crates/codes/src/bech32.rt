@@ -2,7 +2,7 @@
 // of 3, rows of up to 89 symbols.
 ghost use Rattle.std.specs.Prelude.{◌≡◌, refl};
 ghost use Rattle.algebra.specs.Code.{checks};
-ghost use Rattle.codes.specs.Bech32.{sheet};
+ghost use Rattle.codes.specs.Bech32.{sheet, sheet_rows};
 
 use checksum::checksum::Checksum;
 use gf32::gf32::Fe32;
@@ -46,6 +46,10 @@ impl Checksum for Bech32 {
     ghost root_generator_is = { refl };
 
     ghost root_exponents_are = { refl };
+
+    ghost rows = { sheet_rows };
+
+    ghost rows_are = { refl };
 
     // x^6 + 29 x^5 + 22 x^4 + 20 x^3 + 21 x^2 + 29 x + 18
     fn generator(power: usize) -> Fe32 {

@@ -1,7 +1,7 @@
 // The finish code, which seals the rows of a finish: four check symbols over GF(32), a bound of 4, rows of up to 31 symbols.
 ghost use Rattle.std.specs.Prelude.{◌≡◌, refl};
 ghost use Rattle.algebra.specs.Code.{checks};
-ghost use Rattle.codes.specs.Finish.{finish};
+ghost use Rattle.codes.specs.Finish.{finish, finish_rows};
 
 use checksum::checksum::Checksum;
 use gf32::gf32::Fe32;
@@ -40,6 +40,10 @@ impl Checksum for Finish {
     ghost root_generator_is = { refl };
 
     ghost root_exponents_are = { refl };
+
+    ghost rows = { finish_rows };
+
+    ghost rows_are = { refl };
 
     // x^4 + 30 x^3 + 7 x^2 + 24 x + 19
     fn generator(power: usize) -> Fe32 {

@@ -11,7 +11,7 @@ use Rattle.fieldvec.specs.declared.fault.ListFault.{ListFault}
 use Rattle.fieldvec.proofs.Filled.{asked_some}
 use Rattle.polynomial.specs.Roots.{roots, coming, Stepped}
 use Rattle.polynomial.specs.declared.roots.Roots.{Roots}
-use Rattle.correction.specs.Listing.{Lists}
+use Rattle.correction.specs.Steps.Listing.{Lists}
 use Rattle.correction.proofs.Onward.{Onward}
 
 module _ {A : Type 0} (F : FieldOn A) (a : A) where

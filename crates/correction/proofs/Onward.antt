@@ -6,7 +6,7 @@ use Rattle.std.proofs.lemmas.List.{at_drop_more, length-append, length-drop, len
 use Rattle.std.proofs.lemmas.Option.{none-some}
 use Rattle.algebra.specs.Rows.{positions}
 use Rattle.book.specs.declared.record.Record.{Record}
-use Rattle.correction.specs.Listing.{record_of, Added, Listable, Lists}
+use Rattle.correction.specs.Steps.Listing.{record_of, Added, Listable, Lists}
 use Rattle.book.specs.Patterns.{Pushed}
 
 pub pushed_added : (new : Record) (before after : List Record) (r : Option (Unit {0})) → Pushed new before r after → Added new before r after

@@ -15,9 +15,9 @@ use Rattle.algebra.proofs.Members.{all_map}
 use Rattle.book.specs.declared.pattern.Pattern.{Pattern}
 use Rattle.book.specs.declared.record.Record.{Record}
 use Rattle.polynomial.specs.Roots.{roots}
-use Rattle.correction.specs.Decoded.{located, Told, found, Complete, Tells}
-use Rattle.correction.specs.Forney.{Valued}
-use Rattle.correction.specs.Listing.{OnRow, Lists, record_of}
+use Rattle.correction.specs.Steps.Decoded.{located, Told, found, Complete, Tells}
+use Rattle.correction.specs.Steps.Forney.{Valued}
+use Rattle.correction.specs.Steps.Listing.{OnRow, Lists, record_of}
 use Rattle.correction.proofs.Onward.{both_listed}
 
 module _ {E S : Type 0} {F : FieldOn E} {up : S → E} {N : Numbers S} where

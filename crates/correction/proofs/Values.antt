@@ -14,7 +14,7 @@ use Rattle.field.proofs.Refusals.{inverse_of_other}
 use Rattle.fieldvec.specs.Faults.{asked}
 use Rattle.fieldvec.specs.declared.fault.ListFault.{ListFault}
 use Rattle.fieldvec.proofs.Filled.{asked_some}
-use Rattle.correction.specs.Forney.{forney}
+use Rattle.correction.specs.Steps.Forney.{forney}
 
 -- a list that has entries is not refused
 pub answer_is : {X : Type 0} {given : ℕ} {x y : X} {r : Result X ListFault} → 0 < given → r ≡ asked given x → r ≡ Ok y → y ≡ x

@@ -1,5 +1,2 @@
-pub mod Decoded
-pub mod Forney
-pub mod Listing
 pub mod Proposals
-pub mod Changes
+pub mod Steps

@@ -4,8 +4,7 @@
 ghost use Rattle.std.specs.Prelude.{◌≡◌, ◌+◌, ◌*◌, ◌≤◌, length};
 ghost use Rattle.algebra.specs.Code.{bound};
 ghost use Rattle.book.specs.Book.{marks};
-ghost use Rattle.book.specs.Codes.{rows_of};
-ghost use Rattle.correction.specs.Decoded.{Tells};
+ghost use Rattle.correction.specs.Steps.Decoded.{Tells};
 ghost use Rattle.correction.specs.Proposals.{Proposes, worked};
 ghost use Rattle.slip.specs.View.{Holdable};
 
@@ -23,7 +22,7 @@ use slip::slip::Slip;
 /// none is, they may be anything, so a proposal is to be checked. The working list has 12 × (bound + 2) entries at least: it is
 /// cut into parts from its front, which are lent on, and is all ZERO after. Nothing is proposed where it is shorter.
 pub fn bch_errors<C: Checksum>(slip: &Slip, work: &mut [C::CorrectionField]) -> Option<Pattern>
-    ensures proposes { Proposes (rows_of C.SymbolField.numbers C.SymbolField.field C.code) slip.now (length work.old) result }
+    ensures proposes { Proposes C.rows slip.now (length work.old) result }
     ensures after { work.new ≡ worked C.CorrectionField.field (bound C.code) work.old }
 {
     C::laws();

@@ -2,7 +2,7 @@
 ghost use Rattle.std.specs.Prelude.{◌≡◌, ℕ, ◌<◌, ◌≤◌, length, Some, ◌≢◌};
 ghost use Rattle.algebra.specs.Field.{pow};
 ghost use Rattle.algebra.specs.Poly.{eval};
-ghost use Rattle.correction.specs.Forney.{forney, Valued};
+ghost use Rattle.correction.specs.Steps.Forney.{forney, Valued};
 
 use field::arithmetic::quotient;
 use field::field::{ExtensionField, Field};
@@ -19,11 +19,11 @@ pub(crate) struct Forney<'a, E: ExtensionField> {
     pub(crate) first: usize,
     ghost nonzero: { root ≢ E.field.𝟘 },
     ghost some: { 0 < length evaluator.now },
-    ghost alphabet: { E.BaseField.numbers.size ≡ 32 },
+    ghost small: { E.BaseField.numbers.size ≤ 256 },
 }
 
 impl<E: ExtensionField> Forney<'_, E> {
-    ghost use Rattle.correction.specs.Changes.{ChangeAt};
+    ghost use Rattle.correction.specs.Steps.Changes.{ChangeAt};
 
     // The change at a locator x, none where the derivative is ZERO at 1/x:
     //

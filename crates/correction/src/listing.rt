@@ -3,8 +3,8 @@ ghost use Rattle.std.specs.Prelude.{◌≡◌, ℕ, ◌<◌, ◌≤◌, map, len
 ghost use Rattle.algebra.specs.Decode.{root_position};
 ghost use Rattle.algebra.specs.Field.{HasOrder};
 ghost use Rattle.algebra.specs.Rows.{positions};
-ghost use Rattle.correction.specs.Changes.{ChangeAt};
-ghost use Rattle.correction.specs.Listing.{Added, Lists, OnRow};
+ghost use Rattle.correction.specs.Steps.Changes.{ChangeAt};
+ghost use Rattle.correction.specs.Steps.Listing.{Added, Lists, OnRow};
 ghost use Rattle.polynomial.specs.Roots.{roots as root_indices};
 
 use crate::forney::Forney;

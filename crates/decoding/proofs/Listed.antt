@@ -22,7 +22,8 @@ use Rattle.algebra.proofs.Mended.{mends}
 use Rattle.algebra.proofs.Places.{change_of_place}
 use Rattle.polynomial.specs.Roots.{roots}
 use Rattle.book.specs.Book.{Book, Place, marks, row}
-use Rattle.book.specs.Codes.{Near, Rows, rows_of}
+use Rattle.algebra.specs.NumericCode.{NumericCode, rows_of}
+use Rattle.book.specs.Codes.{Near}
 use Rattle.book.specs.Mending.{changes, changes_at, doubtful, wrong}
 use Rattle.book.specs.declared.record.Record.{Record}
 use Rattle.book.proofs.Numbers.{Below, elements, in_elements, length_elements, marks_elements, near_elements, row_elements, sound_below, wrong_elements}
@@ -53,12 +54,12 @@ module _ (want : Place → ℕ → Bool) where
   flags_drop (suc m) (a ∷ b) (v ∷ n) h = flags_drop m b n (omega arith)
 
   -- the changes at the wanted places are those at their positions, Y being the changes by position
-  module _ (C : Rows) (Y : ℕ → ℕ) (long : ℕ) where
+  module _ (C : NumericCode) (Y : ℕ → ℕ) (long : ℕ) where
     abbrev at : ℕ → Record
     at p = record { place = long - 1 - p; change = Y p }
 
     changes_by_position : (i : ℕ) (b : Book) (n : List ℕ) → i + length b ≡ long → length n ≡ length b
-        → ((k : ℕ) → k < length b → C.less (get_or (row b) k 0) (get_or n k 0) ≡ Y (length b - 1 - k)) → changes_at want C i b n ≡ map at (positions (flags b n))
+        → ((k : ℕ) → k < length b → C.sub (get_or (row b) k 0) (get_or n k 0) ≡ Y (length b - 1 - k)) → changes_at want C i b n ≡ map at (positions (flags b n))
     changes_by_position i [] n h same values = refl
     changes_by_position i (a ∷ b) [] h same values = absurd (omega arith)
     changes_by_position i (a ∷ b) (v ∷ n) h same values =
@@ -67,7 +68,7 @@ module _ (want : Place → ℕ → Bool) where
         shorter : (k : ℕ) → length (a ∷ b) - 1 - suc k ≡ length b - 1 - k
         shorter k = omega arith
 
-        first : record { place = i; change = C.less a.symbol v } ≡ at (length (flags b n))
+        first : record { place = i; change = C.sub a.symbol v } ≡ at (length (flags b n))
         first =
             let l = length_flags b n (omega arith) in
             let place : i ≡ long - 1 - length (flags b n) = omega arith in
@@ -75,7 +76,7 @@ module _ (want : Place → ℕ → Bool) where
             ap₂ (λ (p c : ℕ). record { place = p; change = c }) place (values 0 (omega arith) ∙ ap Y last)
 
         by : (t : Bool) → changes_at want C (i + 1) b n ≡ map at (positions (flags b n))
-            → cond t (record { place = i; change = C.less a.symbol v } ∷ changes_at want C (i + 1) b n) (changes_at want C (i + 1) b n) ≡ map at (positions (t ∷ flags b n))
+            → cond t (record { place = i; change = C.sub a.symbol v } ∷ changes_at want C (i + 1) b n) (changes_at want C (i + 1) b n) ≡ map at (positions (t ∷ flags b n))
         by true ih = ap₂ ◌∷◌ first ih
         by false ih = ih
 
@@ -94,8 +95,8 @@ map_later f g h [] = refl
 map_later f g h (p ∷ ps) = ap₂ ◌∷◌ (h p) (map_later f g h ps)
 
 -- the changes of a book: at the doubted positions, and then at the others, position 0 first
-module _ (C : Rows) (Y : ℕ → ℕ) (b : Book) (n : List ℕ) (same : length n ≡ length b)
-    (values : (k : ℕ) → k < length b → C.less (get_or (row b) k 0) (get_or n k 0) ≡ Y (length b - 1 - k)) where
+module _ (C : NumericCode) (Y : ℕ → ℕ) (b : Book) (n : List ℕ) (same : length n ≡ length b)
+    (values : (k : ℕ) → k < length b → C.sub (get_or (row b) k 0) (get_or n k 0) ≡ Y (length b - 1 - k)) where
   abbrev placed : ℕ → Record
   placed p = record { place = length b - 1 - p; change = Y p }
 
@@ -109,12 +110,12 @@ module _ (C : Rows) (Y : ℕ → ℕ) (b : Book) (n : List ℕ) (same : length n
       ∙ ap (λ fs. map placed (positions fs)) (flags_drop wrong last b n same ∙ ap (λ k. drop (k - 1) (flags wrong b n)) (sym f))
       ∙ ap (map placed) (sym (zeros_positions (flags wrong b n)))
     where
-      read : (k : ℕ) → k < length (drop (length b - 1) b) → C.less (get_or (row (drop (length b - 1) b)) k 0) (get_or (drop (length b - 1) n) k 0) ≡ Y (length (drop (length b - 1) b) - 1 - k)
+      read : (k : ℕ) → k < length (drop (length b - 1) b) → C.sub (get_or (row (drop (length b - 1) b)) k 0) (get_or (drop (length b - 1) n) k 0) ≡ Y (length (drop (length b - 1) b) - 1 - k)
       read k h =
           let last = length b - 1 in
           let l = length-drop last b in
           let position : length b - 1 - (last + k) ≡ length (drop last b) - 1 - k = omega arith in
-          ap₂ C.less (ap (λ (t : List ℕ). get_or t k 0) (sym (drop-map (λ a. a.symbol) last b)) ∙ get_or-drop last (row b) k 0) (get_or-drop last n k 0)
+          ap₂ C.sub (ap (λ (t : List ℕ). get_or t k 0) (sym (drop-map (λ a. a.symbol) last b)) ∙ get_or-drop last (row b) k 0) (get_or-drop last n k 0)
           ∙ values (last + k) (omega arith) ∙ ap Y position
 
   other_changes : changes_at wrong C 0 (take (length b - 1) b) (take (length b - 1) n) ≡ map placed (others (positions (flags wrong b n)))
@@ -131,12 +132,12 @@ module _ (C : Rows) (Y : ℕ → ℕ) (b : Book) (n : List ℕ) (same : length n
       later : (p : ℕ) → record { place = length b - 1 - 1 - p; change = Y (suc p) } ≡ placed (suc p)
       later p = let place : length b - 1 - 1 - p ≡ length b - 1 - suc p = omega arith in ap (λ k. record { place = k; change = Y (suc p) }) place
 
-      read : (k : ℕ) → k < length (take (length b - 1) b) → C.less (get_or (row (take (length b - 1) b)) k 0) (get_or (take (length b - 1) n) k 0) ≡ Y (suc (length (take (length b - 1) b) - 1 - k))
+      read : (k : ℕ) → k < length (take (length b - 1) b) → C.sub (get_or (row (take (length b - 1) b)) k 0) (get_or (take (length b - 1) n) k 0) ≡ Y (suc (length (take (length b - 1) b) - 1 - k))
       read k h =
           let last = length b - 1 in
           let l = length-take-le last b (omega arith) in
           let position : length b - 1 - k ≡ suc (length (take last b) - 1 - k) = omega arith in
-          ap₂ C.less (ap (λ (t : List ℕ). get_or t k 0) (sym (take-map (λ a. a.symbol) last b)) ∙ get_or-take last (row b) k 0 (omega arith)) (get_or-take last n k 0 (omega arith))
+          ap₂ C.sub (ap (λ (t : List ℕ). get_or t k 0) (sym (take-map (λ a. a.symbol) last b)) ∙ get_or-take last (row b) k 0 (omega arith)) (get_or-take last n k 0 (omega arith))
           ∙ values k (omega arith) ∙ ap Y position
 
   changes_placed : changes C b n ≡ map placed (positions (marks b)) ++ map placed (zero_first (positions (wrong_places ℕ_discrete b n)))
@@ -180,7 +181,7 @@ module _ {S E : Type 0} (N : Numbers S) (s : FieldOn S) (e : FieldOn E) (up : S 
   short_s = let l = length_elements N b in omega arith
 
   -- the number of the change at a position is the symbol there less the one that was meant
-  change_read : (k : ℕ) → k < length b → (rows_of N s C).less (get_or (row b) k 0) (get_or n k 0) ≡ change_number N s e up C b n (length b - 1 - k)
+  change_read : (k : ℕ) → k < length b → (rows_of N s C).sub (get_or (row b) k 0) (get_or n k 0) ≡ change_number N s e up C b n (length b - 1 - k)
   change_read k h =
       let l = length_elements N b in
       let m = near.same_length in

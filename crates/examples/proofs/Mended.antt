@@ -18,19 +18,19 @@ use Rattle.book.specs.Codes.{Lawful, Near, Sound}
 use Rattle.book.specs.declared.code_fault.CodeFault.TheVariants.{Unfit}
 use Rattle.book.proofs.Numbers.{all_below_all, rows_lawful, near_elements, in_elements, elements, elements_numbers}
 use Rattle.book.proofs.Same.{same}
-use Rattle.codes.specs.Finish.{finish}
+use Rattle.codes.specs.Finish.{finish, finish_rows}
 use Rattle.codes.proofs.FinishLaws.{finish_lawful}
 use Rattle.gf32.specs.Binary.{product}
 use Rattle.gf32.specs.Gf32.{gf32, fe_discrete, fe_path, gf32_numbers}
 use Rattle.gf32.specs.declared.gf32.Fe32.{Fe32}
-use Rattle.examples.specs.Mended.{finish_rows, sent, garbled, unsound, unchecked, Solves, Mended}
+use Rattle.examples.specs.Mended.{sent, garbled, unsound, unchecked, Solves, Mended}
 
 lifts : Lifts gf32 gf32 (λ (x : Fe32). x)
 lifts = record { sums = λ x y. refl; products = λ x y. refl; one_to_one = λ x y e. e }
 
 lawful : Lawful finish_rows
 unfolding gf32_numbers
-lawful = rows_lawful gf32_numbers gf32 gf32 (λ (x : Fe32). x) lifts finish finish_lawful refl
+lawful = rows_lawful gf32_numbers gf32 gf32 (λ (x : Fe32). x) lifts finish finish_lawful finish_rows refl refl
 
 near_garbled : Near finish_rows garbled sent
 unfolding finish gf32 fe_discrete gf32_numbers product ℕ_discrete

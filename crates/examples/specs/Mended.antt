@@ -4,14 +4,9 @@ use Rattle.std.specs.Prelude.{◌≡◌, ℕ, List, [], ◌∷◌, ◌++◌, map
 use Rattle.book.specs.Book.{Book, sure, unsure, mark}
 use Rattle.book.specs.Calls.{Answer, Follows, solve, refused, listed}
 use Rattle.book.specs.CodeFaults.{told}
-use Rattle.book.specs.Codes.{Rows, rows_of}
 use Rattle.book.specs.declared.code_fault.CodeFault.TheVariants.{Unfit}
 use Rattle.book.specs.declared.record.Record.{Record}
-use Rattle.codes.specs.Finish.{finish}
-use Rattle.gf32.specs.Gf32.{gf32, gf32_numbers}
-
-abbrev pub finish_rows : Rows
-finish_rows = rows_of gf32_numbers gf32 finish
+use Rattle.codes.specs.Finish.{finish_rows}
 
 abbrev pub sent : List ℕ
 sent = 4 ∷ 20 ∷ 20 ∷ 12 ∷ 15 ∷ 31 ∷ 0 ∷ 6 ∷ 10 ∷ 17 ∷ 15 ∷ 18 ∷ []

@@ -3,7 +3,7 @@ use Rattle.std.proofs.Common.{◌≡◌, ℕ, true, List, map, Some, None, Ok, E
 use Rattle.field.specs.declared.fault.Refusal.{Refusal}
 use Rattle.book.specs.Book.{Book, row, sure}
 use Rattle.book.specs.Calls.{Answer, Follows, Mends, done, listed, lists, refused, settle, settled, settles, barred, none_near, one_near}
-use Rattle.book.specs.Codes.{Rows}
+use Rattle.algebra.specs.NumericCode.{NumericCode}
 use Rattle.book.specs.Mending.{changes, nonzero}
 use Rattle.book.specs.declared.record.Record.{Record}
 use Rattle.book.proofs.Rows.{row_sure}
@@ -24,7 +24,7 @@ same_ok e f = cc
 same_err : {X Y : Type 0} {r : Result X Y} {x y : Y} → r ≡ Err x → r ≡ Err y → x ≡ y
 same_err e f = cc
 
-module _ (C : Rows) (line : List ℕ) (fault : LineFault) (e : take_line true line ≡ Err fault) where
+module _ (C : NumericCode) (line : List ℕ) (fault : LineFault) (e : take_line true line ≡ Err fault) where
   nothing_but_refused : (other : Result Reading Refusal) → Says C line other → other ≡ Err (told fault)
   nothing_but_refused _ (not_taken f) = ap (λ x. Err (told x)) (same_err f e)
   nothing_but_refused _ (not_mended f _) = absurd (taken_refused f e)
@@ -35,7 +35,7 @@ module _ (C : Rows) (line : List ℕ) (fault : LineFault) (e : take_line true li
   only_refused = record { says = not_taken e; nothing_else = nothing_but_refused }
 
 -- how a settle answers
-module _ {C : Rows} {r w : ℕ} {b : Book} where
+module _ {C : NumericCode} {r w : ℕ} {b : Book} where
   mends_listed : {a : Answer} {found : Option (List ℕ)} {cs : List Record} {i j : ℕ} → Mends C r w b a found → a ≡ listed cs i j
       → (n : List ℕ) × Mends C r w b (lists C b n) (Some n) × (j ≡ nonzero C (changes C b n)) × (settled b found ≡ map sure n)
   mends_listed (barred f) e = cc
@@ -52,27 +52,27 @@ module _ {C : Rows} {r w : ℕ} {b : Book} where
   mends_not_done (none_near f none) e = cc
   mends_not_done (one_near f near) e = cc
 
-pub settle_listed : {C : Rows} {r w : ℕ} {b d : Book} {cs : List Record} {i j : ℕ} → Follows b (settle C r w) (listed cs i j) d
+pub settle_listed : {C : NumericCode} {r w : ℕ} {b d : Book} {cs : List Record} {i j : ℕ} → Follows b (settle C r w) (listed cs i j) d
     → (n : List ℕ) × Mends C r w b (lists C b n) (Some n) × (j ≡ nonzero C (changes C b n)) × (d ≡ map sure n)
 settle_listed (settles m) = mends_listed m refl
 
-pub settle_refused : {C : Rows} {r w : ℕ} {b d : Book} {why : Refusal} → Follows b (settle C r w) (refused why) d → Mends C r w b (refused why) None
+pub settle_refused : {C : NumericCode} {r w : ℕ} {b d : Book} {why : Refusal} → Follows b (settle C r w) (refused why) d → Mends C r w b (refused why) None
 settle_refused (settles m) = mends_refused m refl
 
-pub settle_not_done : {C : Rows} {r w : ℕ} {b d : Book} → Follows b (settle C r w) done d → ⊥
+pub settle_not_done : {C : NumericCode} {r w : ℕ} {b d : Book} → Follows b (settle C r w) done d → ⊥
 settle_not_done (settles m) = mends_not_done m refl
 
 -- what is said of the book that a line is taken as
-data Reads (C : Rows) (b : Book) : Result Reading Refusal → Type 0 where
+data Reads (C : NumericCode) (b : Book) : Result Reading Refusal → Type 0 where
   barely : {why : Refusal} → Mends C 16 216 b (refused why) None → Reads C b (Err why)
   badly : {n : List ℕ} {fault : LineFault} → Mends C 16 216 b (lists C b n) (Some n) → read_off n ≡ Err fault → Reads C b (Err (told fault))
   wholly : {n : List ℕ} {sail tenths : ℕ} → Mends C 16 216 b (lists C b n) (Some n) → read_off n ≡ Ok (sail, tenths)
       → Reads C b (Ok (record { changes = nonzero C (changes C b n); sail = sail; tenths = tenths }))
 
-of_same : {C : Rows} {b d : Book} {outcome : Result Reading Refusal} → b ≡ d → Reads C b outcome → Reads C d outcome
+of_same : {C : NumericCode} {b d : Book} {outcome : Result Reading Refusal} → b ≡ d → Reads C b outcome → Reads C d outcome
 of_same {C} {b} {d} {outcome} e reads = subst (λ x. Reads C x outcome) e reads
 
-module _ (C : Rows) (decided : OneWay C) (line : List ℕ) (b : Book) (taken : take_line true line ≡ Ok b) where
+module _ (C : NumericCode) (decided : OneWay C) (line : List ℕ) (b : Book) (taken : take_line true line ≡ Ok b) where
   reads : (outcome : Result Reading Refusal) → Says C line outcome → Reads C b outcome
   reads _ (not_taken f) = absurd (taken_refused taken f)
   reads _ (not_mended f m) = of_same (same_ok f taken) (barely m)

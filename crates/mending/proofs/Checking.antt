@@ -9,7 +9,7 @@ use Rattle.book.specs.Book.{Book, doubted_at}
 use Rattle.book.specs.Mending.{places}
 use Rattle.book.specs.declared.record.Record.{Record}
 use Rattle.slip.proofs.Places.{doubted_at_past}
-use Rattle.mending.specs.Checked.{Covers}
+use Rattle.mending.specs.Steps.Checked.{Covers}
 
 pub decided_yes : {P : Type 0} → P → Decides true P
 decided_yes p = (λ q. p, λ q. refl)

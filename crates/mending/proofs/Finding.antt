@@ -9,20 +9,21 @@ use Rattle.algebra.specs.Field.{FieldOn, Numbers}
 use Rattle.book.specs.Book.{Book, row, sure}
 use Rattle.book.specs.Calls.{Follows, Mends, listed, lists, none_near, one_near, refused, settle, settles, solve, solves, unmendable}
 use Rattle.book.specs.CodeFaults.{told}
-use Rattle.book.specs.Codes.{Lawful, Near, Rows}
+use Rattle.algebra.specs.NumericCode.{NumericCode}
+use Rattle.book.specs.Codes.{Lawful, Near}
 use Rattle.book.specs.Mending.{Fits, changes, nonzero, subtracted}
 use Rattle.book.specs.declared.code_fault.CodeFault.TheVariants.{Unfit}
 use Rattle.book.specs.declared.record.Record.{Record}
 use Rattle.book.proofs.Fitting.{changes_fit, few_changes, fits_near}
 use Rattle.correction.specs.Proposals.{Proposes}
 use Rattle.book.specs.declared.pattern.Pattern.{Pattern}
-use Rattle.mending.specs.Found.{Finding, Found}
+use Rattle.mending.specs.Steps.Found.{Finding, Found}
 
 -- the number of ZERO, as the code works it out
 pub zero_number : {S : Type 0} (N : Numbers S) (F : FieldOn S) (z : S) (n : ℕ) → z ≡ F.𝟘 → n ≡ N.number z → N.number F.𝟘 ≡ n
 zero_number N F z n is-z is-n = ap N.number (sym is-z) ∙ sym is-n
 
-module _ (C : Rows) (r w : ℕ) (b : Book) where
+module _ (C : NumericCode) (r w : ℕ) (b : Book) where
   -- what follows where none of them applies
   pub record Able : Type 0 where
     pub short : length b ≤ C.limit
@@ -55,7 +56,7 @@ module _ (C : Rows) (r w : ℕ) (b : Book) where
           near = near;
           listed = listed;
           subtracts = refl;
-          symbols = subst (λ (k : ℕ). AllByRecursion (λ c. c.change < k) p) law.alphabet fits.symbols;
+          symbols = fits.symbols;
           room = omega (arith, few, long, can.room);
         }
 

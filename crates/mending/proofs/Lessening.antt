@@ -4,7 +4,7 @@ use Rattle.std.proofs.lemmas.List.Elements.{All-cons, All-nil}
 use Rattle.std.proofs.lemmas.List.{at_drop_more, length-map, set_past}
 use Rattle.std.specs.List.{AllByRecursion}
 use Rattle.book.specs.Book.{sure}
-use Rattle.book.specs.Codes.{Rows}
+use Rattle.algebra.specs.NumericCode.{NumericCode}
 use Rattle.book.specs.Mending.{subtracted}
 use Rattle.book.specs.declared.record.Record.{Record}
 use Rattle.book.proofs.Rows.{row_sure}
@@ -14,14 +14,14 @@ use Rattle.slip.specs.View.{Holdable}
 abbrev blank : Record
 blank = record { place = 0; change = 0 }
 
-module _ (C : Rows) (rs : List Record) (i : ℕ) (vs : List ℕ) (whole : List ℕ) (h : i < length rs) (inv : subtracted C (drop i rs) vs ≡ whole) where
-  pub subtract_more : (x : ℕ) → x ≡ C.less (get_or vs (get_or rs i blank).place 0) (get_or rs i blank).change → subtracted C (drop (i + 1) rs) (set vs (get_or rs i blank).place x) ≡ whole
+module _ (C : NumericCode) (rs : List Record) (i : ℕ) (vs : List ℕ) (whole : List ℕ) (h : i < length rs) (inv : subtracted C (drop i rs) vs ≡ whole) where
+  pub subtract_more : (x : ℕ) → x ≡ C.sub (get_or vs (get_or rs i blank).place 0) (get_or rs i blank).change → subtracted C (drop (i + 1) rs) (set vs (get_or rs i blank).place x) ≡ whole
   subtract_more x is = rw is (sym (at_drop_more (λ cs. subtracted C cs vs) rs i blank h) ∙ inv)
 
   -- a change past the row's end changes nothing
   pub subtract_past : length vs ≤ (get_or rs i blank).place → subtracted C (drop (i + 1) rs) vs ≡ whole
   subtract_past out =
-      let x = C.less (get_or vs (get_or rs i blank).place 0) (get_or rs i blank).change in
+      let x = C.sub (get_or vs (get_or rs i blank).place 0) (get_or rs i blank).change in
       ap (subtracted C (drop (i + 1) rs)) (sym (set_past vs (get_or rs i blank).place x out)) ∙ subtract_more x refl
 
 -- from what holds by recursion to the same of each place

@@ -1,3 +1,2 @@
 pub mod Answers
-pub mod Checked
-pub mod Found
+pub mod Steps

@@ -1,21 +1,20 @@
 // The checker: it accepts a list of records, whoever proposed it, exactly if it is a pattern that fits.
 ghost use Rattle.std.specs.Prelude.{◌≡◌, Decides};
 ghost use Rattle.algebra.specs.Series.{Mem};
-ghost use Rattle.book.specs.Codes.{rows_of};
 ghost use Rattle.book.specs.Mending.{places, elsewhere, Fits};
-ghost use Rattle.mending.specs.Checked.{Admits, Sensible, Covers, Formed};
+ghost use Rattle.mending.specs.Steps.Checked.{Admits, Sensible, Covers, Formed};
 
 use crate::subtracting::mended;
 use book::record::Record;
 use checksum::checksum::{Checksum, bound};
-use checksum::symbols::number;
+use checksum::symbols::{element, number};
 use field::field::Field;
 use slip::slip::Slip;
 
 /// Whether records are a pattern that fits the slip by a code.
 #[tactic(auto, using(checksum::proofs::Sizes::engine_fits))]
 pub fn fits<C: Checksum>(slip: &Slip, records: &[Record]) -> bool
-    ensures { Decides result (Fits (rows_of C.SymbolField.numbers C.SymbolField.field C.code) slip.now records.now) }
+    ensures { Decides result (Fits C.rows slip.now records.now) }
 {
     C::laws();
     C::SymbolField::small();
@@ -33,14 +32,14 @@ struct Proposal<'a> {
 impl Proposal<'_> {
     // Whether the records are a pattern within the bound, whatever row they lead to.
     fn is_formed<C: Checksum>(&self) -> bool
-        ensures { let C = rows_of C.SymbolField.numbers C.SymbolField.field C.code in Decides result (Formed self.now.slip.now C.nothing C.bound self.now.records.now) }
+        ensures { Decides result (Formed C.rows self.now.slip.now self.now.records.now) }
     {
         C::laws();
         let bound = bound::<C>();
         let doubts = self.slip.doubts();
         doubts <= bound
             && self.elsewhere() <= (bound - doubts) / 2
-            && self.is_sensible(number::<C>(C::SymbolField::ZERO))
+            && self.is_sensible::<C>(number::<C>(C::SymbolField::ZERO))
             && self.covers()
     }
 
@@ -55,12 +54,13 @@ impl Proposal<'_> {
     }
 
     // Whether each record can be part of a pattern, and no place is named twice.
-    fn is_sensible(&self, nothing: u8) -> bool
-        ensures { Decides result (Sensible self.now.slip.now nothing self.now.records.now) }
+    fn is_sensible<C: Checksum>(&self, nothing: u8) -> bool
+        ensures { Decides result
+            (Sensible self.now.slip.now C.rows.size nothing self.now.records.now) }
     {
         let mut rest = self.records;
         while let Some((record, later)) = rest.split_first() {
-            if !admits(self.slip, record, nothing) || names(later, record.place) {
+            if !admits::<C>(self.slip, record, nothing) || names(later, record.place) {
                 return false;
             }
             rest = later;
@@ -77,11 +77,12 @@ impl Proposal<'_> {
 }
 
 // Whether a record names a place of the slip and a symbol, and changes something unless the place is doubted.
-fn admits(slip: &Slip, record: &Record, nothing: u8) -> bool
-    ensures { Decides result (Admits slip.now nothing «record».now) }
+fn admits<C: Checksum>(slip: &Slip, record: &Record, nothing: u8) -> bool
+    ensures { Decides result (Admits slip.now C.rows.size nothing «record».now) }
 {
+    C::laws();
     record.place < slip.len()
-        && record.change < 32
+        && element::<C>(record.change).is_some()
         && (slip.is_doubted(record.place) || record.change != nothing)
 }
 

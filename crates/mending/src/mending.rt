@@ -1,12 +1,10 @@
-// Mending by a code: a search proposes records, the checker accepts them or not, and only then is anything told. Clauses spell
-// out the rows of a code: a word for them would take the same three arguments.
+// Mending by a code: a search proposes records, and only what the checker accepts is listed.
 ghost use Rattle.std.specs.Prelude.{◌≡◌, ◌≤◌, ◌++◌, ◌==◌, not, count_by, length, drop};
 ghost use Rattle.std.specs.Result.{result_err};
 ghost use Rattle.book.specs.Calls.{Follows, solve, settle, unmendable};
-ghost use Rattle.book.specs.Codes.{rows_of};
 ghost use Rattle.book.specs.Mending.{nonzero};
 ghost use Rattle.mending.specs.Answers.{told_list, written, cleared};
-ghost use Rattle.mending.specs.Found.{Found};
+ghost use Rattle.mending.specs.Steps.Found.{Found};
 ghost use Rattle.slip.specs.View.{Holdable};
 
 use crate::checker::fits;
@@ -27,7 +25,8 @@ pub fn solve<C: Checksum>(
     records: &mut [Record],
     work: &mut [C::CorrectionField],
 ) -> Result<(usize, usize), CodeFault>
-    ensures follows { Follows slip.now (solve (rows_of C.SymbolField.numbers C.SymbolField.field C.code) (length records.old) (length work.old)) (told_list result records.new) slip.now }
+    ensures follows { Follows slip.now (solve C.rows (length records.old) (length work.old))
+        (told_list result records.new) slip.now }
     ensures past { drop (written result) records.new ≡ drop (written result) records.old }
     ensures working { work.new ≡ cleared C.CorrectionField.field result work.old }
 {
@@ -41,7 +40,8 @@ pub fn settle<C: Checksum>(
     records: &mut [Record],
     work: &mut [C::CorrectionField],
 ) -> Result<(usize, usize), CodeFault>
-    ensures follows { Follows slip.old (settle (rows_of C.SymbolField.numbers C.SymbolField.field C.code) (length records.old) (length work.old)) (told_list result records.new) slip.new }
+    ensures follows { Follows slip.old (settle C.rows (length records.old) (length work.old))
+        (told_list result records.new) slip.new }
     ensures past { drop (written result) records.new ≡ drop (written result) records.old }
     ensures working { work.new ≡ cleared C.CorrectionField.field result work.old }
 {
@@ -58,7 +58,7 @@ fn find<C: Checksum>(
     records: usize,
     work: &mut [C::CorrectionField],
 ) -> Result<Pattern, CodeFault>
-    ensures found { Found (rows_of C.SymbolField.numbers C.SymbolField.field C.code) records (length work.old) slip.now result }
+    ensures found { Found C.rows records (length work.old) slip.now result }
     ensures working { work.new ≡ cleared C.CorrectionField.field result work.old }
 {
     C::laws();
@@ -71,7 +71,7 @@ fn find<C: Checksum>(
 
 // Whether a slip may be mended, whatever its symbols are, with lists of some lengths being lent, and if not, why.
 fn can_mend<C: Checksum>(slip: &Slip, records: usize, work: usize) -> Result<(), CodeFault>
-    ensures fault { result_err result ≡ unmendable (rows_of C.SymbolField.numbers C.SymbolField.field C.code) records work slip.now }
+    ensures fault { result_err result ≡ unmendable C.rows records work slip.now }
     ensures holdable { Holdable slip.now }
 {
     C::laws();
@@ -98,7 +98,7 @@ fn can_mend<C: Checksum>(slip: &Slip, records: usize, work: usize) -> Result<(),
 fn list<C: Checksum>(pattern: &Pattern, records: &mut [Record]) -> (usize, usize)
     requires { length pattern.now ≤ length records.old }
     ensures many { result.0 ≡ length pattern.now }
-    ensures changed { result.1 ≡ nonzero (rows_of C.SymbolField.numbers C.SymbolField.field C.code) pattern.now }
+    ensures changed { result.1 ≡ nonzero C.rows pattern.now }
     ensures listed { records.new ≡ pattern.now ++ drop (length pattern.now) records.old }
 {
     C::laws();

@@ -1,7 +1,6 @@
-// Changes subtracted from a slip's row. Symbols are numbers here, as the slip has them, so each function says that they are below 32.
+// Changes subtracted from a slip's row. Symbols are numbers here, as the slip has them, so each function says that they are below the code's size.
 ghost use Rattle.std.specs.Prelude.{◌≡◌, ◌<◌, ◌≤◌, All, map, length};
 ghost use Rattle.book.specs.Book.{row, sure};
-ghost use Rattle.book.specs.Codes.{rows_of};
 ghost use Rattle.book.specs.Mending.{subtracted};
 ghost use Rattle.slip.specs.View.{Holdable};
 
@@ -14,10 +13,11 @@ use slip::slip::Slip;
 // A slip with the changes subtracted from the row, nothing doubted. The row is worked on in fixed memory, as long as any
 // slip's.
 pub(crate) fn mended<C: Checksum>(slip: &Slip, records: &[Record]) -> Slip
-    requires { All (λ c. c.change < 32) records.now }
-    ensures mended { result ≡ map sure (subtracted (rows_of C.SymbolField.numbers C.SymbolField.field C.code) records.now (row slip.now)) }
+    requires { All (λ c. c.change < C.rows.size) records.now }
+    ensures mended { result ≡ map sure (subtracted C.rows records.now (row slip.now)) }
     ensures holdable { Holdable result }
 {
+    C::laws();
     let mut memory = [0; 89];
     let symbols = &mut memory[..slip.len()];
     symbols.copy_from_slice(slip.symbols());
@@ -27,10 +27,10 @@ pub(crate) fn mended<C: Checksum>(slip: &Slip, records: &[Record]) -> Slip
 
 // Subtracts each change from the symbol at its place.
 fn subtract<C: Checksum>(symbols: &mut [u8], records: &[Record])
-    requires small { All (λ v. v < 32) symbols.old }
-    requires changes { All (λ c. c.change < 32) records.now }
-    ensures subtracted { symbols.new ≡ subtracted (rows_of C.SymbolField.numbers C.SymbolField.field C.code) records.now symbols.old }
-    ensures below { All (λ v. v < 32) symbols.new }
+    requires small { All (λ v. v < C.rows.size) symbols.old }
+    requires changes { All (λ c. c.change < C.rows.size) records.now }
+    ensures subtracted { symbols.new ≡ subtracted C.rows records.now symbols.old }
+    ensures below { All (λ v. v < C.rows.size) symbols.new }
 {
     for record in records {
         if record.place < symbols.len() {
@@ -54,11 +54,12 @@ fn undoubted(symbols: &[u8]) -> Slip
 
 // One symbol less another.
 fn less<C: Checksum>(x: u8, y: u8) -> u8
-    requires left { x < 32 }
-    requires right { y < 32 }
-    ensures less { result ≡ (rows_of C.SymbolField.numbers C.SymbolField.field C.code).less x y }
-    ensures below { result < 32 }
+    requires left { x < C.rows.size }
+    requires right { y < C.rows.size }
+    ensures less { result ≡ C.rows.sub x y }
+    ensures below { result < C.rows.size }
 {
+    C::laws();
     let x = element::<C>(x).unwrap();
     let y = element::<C>(y).unwrap();
     number::<C>(difference(x, y))

@@ -9,7 +9,8 @@ use Rattle.book.specs.Book as book
 use Rattle.book.specs.Book.{Book, sure, row, fresh, answer, after}
 use Rattle.book.specs.Calls.{Call, Answer, Follows, said, done, write, blank, doubt, wipe, seal, writes, blanks, doubting, wipes, unsealed, seals}
 use Rattle.book.specs.CodeFaults as code
-use Rattle.book.specs.Codes.{Seals, rows_of}
+use Rattle.algebra.specs.NumericCode.{NumericCode, rows_of}
+use Rattle.book.specs.Codes.{Seals}
 use Rattle.book.specs.SlipFaults as slip
 use Rattle.book.specs.declared.code_fault.CodeFault.{CodeFault}
 use Rattle.book.specs.declared.code_fault.CodeFault.TheVariants.{Short, Long}
@@ -51,6 +52,12 @@ module _ {S E : Type 0} (N : Numbers S) (s : FieldOn S) (C : Code S E) (b : Book
       by false true p q = unsealed {fault = Long} (simp (p, q))
       by false false p q = seals (simp (p, q)) good
 
-  pub sealed : (r : Result (Unit {0}) CodeFault) (next : Book) → Seals (rows_of N s C) (row b) (check_symbols N s C (row b))
+  sealed_of : (r : Result (Unit {0}) CodeFault) (next : Book) → Seals (rows_of N s C) (row b) (check_symbols N s C (row b))
       → r ≡ answer (sealing.seal N s C b) → next ≡ after b (sealing.seal N s C b) → Follows b (seal (rows_of N s C)) (said code.told r) next
-  sealed r next good p q = follows_by (ap (said code.told) p ∙ said_answer code.told (sealing.seal N s C b)) q (seal_follows good)
+  sealed_of r next good p q = follows_by (ap (said code.told) p ∙ said_answer code.told (sealing.seal N s C b)) q (seal_follows good)
+
+  pub sealed : (rows : NumericCode) → rows ≡ rows_of N s C → (r : Result (Unit {0}) CodeFault) (next : Book) → Seals rows (row b) (check_symbols N s C (row b))
+      → r ≡ answer (sealing.seal N s C b) → next ≡ after b (sealing.seal N s C b) → Follows b (seal rows) (said code.told r) next
+  sealed rows is r next good p q =
+      subst (λ (k : NumericCode). Follows b (seal k) (said code.told r) next) (sym is)
+      (sealed_of r next (subst (λ (k : NumericCode). Seals k (row b) (check_symbols N s C (row b))) is good) p q)

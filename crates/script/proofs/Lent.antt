@@ -6,7 +6,7 @@ use Rattle.std.proofs.lemmas.List.{length-take, take-append-le}
 use Rattle.std.proofs.lemmas.Bool.{lt-ltb, le-ltb, cases_lt}
 use Rattle.book.specs.Book.{Book}
 use Rattle.book.specs.Calls.{Answer, Follows, Mends, unmendable, listed, solve, settle, barred, none_near, one_near, solves, settles}
-use Rattle.book.specs.Codes.{Rows}
+use Rattle.algebra.specs.NumericCode.{NumericCode}
 use Rattle.book.specs.declared.code_fault.CodeFault.{CodeFault}
 use Rattle.book.specs.declared.record.Record.{Record}
 use Rattle.mending.specs.Answers.{told_list}
@@ -16,7 +16,7 @@ enough : (lent most asked cap : ℕ) → asked ≤ cap → most ≡ min lent cap
 enough lent most asked cap h e =
     ⊎_elim (λ k. lt-ltb lent asked k ∙ sym (lt-ltb most asked (omega arith))) (λ k. le-ltb lent asked k ∙ sym (le-ltb most asked (omega arith))) (cases_lt lent asked)
 
-module _ (C : Rows) (b : Book) (r m w v : ℕ) (p : ltb r C.bound ≡ ltb m C.bound) (q : ltb w (12 * (C.bound + 2)) ≡ ltb v (12 * (C.bound + 2))) where
+module _ (C : NumericCode) (b : Book) (r m w v : ℕ) (p : ltb r C.bound ≡ ltb m C.bound) (q : ltb w (12 * (C.bound + 2)) ≡ ltb v (12 * (C.bound + 2))) where
   same_tests : unmendable C r w b ≡ unmendable C m v b
   same_tests = simp (p, q)
 
@@ -31,7 +31,7 @@ module _ (C : Rows) (b : Book) (r m w v : ℕ) (p : ltb r C.bound ≡ ltb m C.bo
   settle_lent : {a : Answer} {d : Book} → Follows b (settle C m v) a d → Follows b (settle C r w) a d
   settle_lent (settles k) = settles (mends_lent k)
 
-module _ (C : Rows) (small : C.bound ≤ 16) (b d : Book) (r w n : ℕ) {E : Type 0} (desk : List E) (a : Answer) (q : n ≡ min w 216) (size : length desk ≡ 216) where
+module _ (C : NumericCode) (small : C.bound ≤ 16) (b d : Book) (r w n : ℕ) {E : Type 0} (desk : List E) (a : Answer) (q : n ≡ min w 216) (size : length desk ≡ 216) where
   working : ltb w (12 * (C.bound + 2)) ≡ ltb (length (take n desk)) (12 * (C.bound + 2))
   working = enough w _ (12 * (C.bound + 2)) 216 (omega arith) (length-take n desk ∙ omega arith)
 
@@ -41,7 +41,7 @@ module _ (C : Rows) (small : C.bound ≤ 16) (b d : Book) (r w n : ℕ) {E : Typ
   pub settle_on_desk : Follows b (settle C r (length (take n desk))) a d → Follows b (settle C r w) a d
   settle_on_desk = settle_lent C b r r w _ refl working
 
-module _ {C : Rows} {r w : ℕ} {b : Book} where
+module _ {C : NumericCode} {r w : ℕ} {b : Book} where
   -- a list says how long it is
   counted : {cs : List Record} {i j : ℕ} {found : Option (List ℕ)} → Mends C r w b (listed cs i j) found → i ≡ length cs
   counted (one_near e x) = refl
@@ -53,13 +53,13 @@ module _ {C : Rows} {r w : ℕ} {b : Book} where
       ap (λ (rs : List Record). listed rs i j) (take-append-le i xs ys (omega arith))
   front_mended (Err fault) xs ys m = refl
 
-solve_mends : {b : Book} {C : Rows} {r w : ℕ} {a : Answer} {d : Book} → Follows b (solve C r w) a d → (found : Option (List ℕ)) × Mends C r w b a found
+solve_mends : {b : Book} {C : NumericCode} {r w : ℕ} {a : Answer} {d : Book} → Follows b (solve C r w) a d → (found : Option (List ℕ)) × Mends C r w b a found
 solve_mends (solves m) = (_, m)
 
-settle_mends : {b : Book} {C : Rows} {r w : ℕ} {a : Answer} {d : Book} → Follows b (settle C r w) a d → (found : Option (List ℕ)) × Mends C r w b a found
+settle_mends : {b : Book} {C : NumericCode} {r w : ℕ} {a : Answer} {d : Book} → Follows b (settle C r w) a d → (found : Option (List ℕ)) × Mends C r w b a found
 settle_mends (settles m) = (_, m)
 
-module _ (C : Rows) (small : C.bound ≤ 16) (b d : Book) (r w n : ℕ) (sixteen xs ys : List Record) (got : Result (ℕ × ℕ) CodeFault) (a : Answer)
+module _ (C : NumericCode) (small : C.bound ≤ 16) (b d : Book) (r w n : ℕ) (sixteen xs ys : List Record) (got : Result (ℕ × ℕ) CodeFault) (a : Answer)
     (q : n ≡ min r 16) (size : length sixteen ≡ 16) (told : a ≡ told_list got (xs ++ ys)) where
   records : ltb r C.bound ≡ ltb (length (take n sixteen)) C.bound
   records = enough r _ C.bound 16 small (length-take n sixteen ∙ omega arith)

@@ -8,7 +8,7 @@ use Rattle.std.proofs.lemmas.List.{take_more, length-take-le, get_or-set_same, g
 use Rattle.std.proofs.lemmas.Bool.{eqb-true, eqb-false, ne_eqb}
 use Rattle.book.specs.Book.{Book, fresh}
 use Rattle.book.specs.Calls.{Call, Answer, Follows}
-use Rattle.book.specs.Codes.{Rows}
+use Rattle.algebra.specs.NumericCode.{NumericCode}
 use Rattle.book.specs.Story.{Leads}
 use Rattle.script.specs.Script.{asked, heard, calls_on, Stories, FreshStories, Replied, Unasked, Untouched}
 use Rattle.script.specs.declared.script.Turn.{Turn}
@@ -19,7 +19,7 @@ leads_more b [] d e c a l f = (e, subst (λ x. Follows x c a e) l f, refl)
 leads_more b (s ∷ ss) d e c a l f = (l.0, l.1, leads_more l.0 ss d e c a l.2 f)
 
 -- the calls on slip i after a turn more
-module _ {K : Type 0} (rows : K → Rows) (i : ℕ) where
+module _ {K : Type 0} (rows : K → NumericCode) (i : ℕ) where
   calls_put : (ts : List (Turn K)) (t : Turn K) (rs : List Replied) (r : Replied) → length ts < length rs
       → calls_on rows i (ts ++ t ∷ []) (set rs (length ts) r) ≡ calls_on rows i ts rs ++ cond (eqb t.slip i) ((asked rows t.ask, heard r) ∷ []) []
   calls_put ts t [] r h = absurd (omega arith)
@@ -51,7 +51,7 @@ module _ {K : Type 0} (ts : List (Turn K)) (k : ℕ) (t : Turn K) (h : k < lengt
   turns_before : length (take k ts) ≡ k
   turns_before = length-take-le k ts (omega arith)
 
-  module _ (rows : K → Rows) (before : List Book) (rs : List Replied) (books : List Book) (so_far : Stories rows before (take k ts) rs books) where
+  module _ (rows : K → NumericCode) (before : List Book) (rs : List Replied) (books : List Book) (so_far : Stories rows before (take k ts) rs books) where
     -- the turn's call is answered, on its slip
     pub stories_put : (r : Replied) (e : Book) → k < length rs → t.slip < length books
         → Follows (get_or books t.slip fresh) (asked rows t.ask) (heard r) e → Stories rows before (take (k + 1) ts) (set rs k r) (set books t.slip e)
@@ -104,7 +104,7 @@ module _ {K : Type 0} (ts : List (Turn K)) (k : ℕ) (t : Turn K) (h : k < lengt
       here e = subst (λ x. Unasked m (take k ts ++ t ∷ []) x) (e ∙ sym (turns_before ts k t h is)) (subst (λ us. Unasked m us j) (one_turn_more ts k t h is) u)
 
 -- turns past the last reply are not made
-pub stories_all : {K : Type 0} (rows : K → Rows) (before after : List Book) (ts : List (Turn K)) (rs : List Replied) (n : ℕ) → min (length ts) (length rs) ≤ n
+pub stories_all : {K : Type 0} (rows : K → NumericCode) (before after : List Book) (ts : List (Turn K)) (rs : List Replied) (n : ℕ) → min (length ts) (length rs) ≤ n
     → Stories rows before (take n ts) rs after → Stories rows before ts rs after
 stories_all rows before after ts rs n h s i l = rw (← (calls_all rows i ts rs n h)) (s i l)
 
@@ -114,5 +114,5 @@ fresh_at [] h i = refl
 fresh_at (b ∷ books) h zero = h.0
 fresh_at (b ∷ books) h (suc i) = fresh_at books h.1 i
 
-pub stories_fresh : {K : Type 0} (rows : K → Rows) (before after : List Book) (ts : List (Turn K)) (rs : List Replied) → Stories rows before ts rs after → FreshStories rows before ts rs after
+pub stories_fresh : {K : Type 0} (rows : K → NumericCode) (before after : List Book) (ts : List (Turn K)) (rs : List Replied) → Stories rows before ts rs after → FreshStories rows before ts rs after
 stories_fresh rows before after ts rs s all-fresh i l = subst (λ (b : Book). Leads b (calls_on rows i ts rs) (get_or after i fresh)) (fresh_at before all-fresh i) (s i l)

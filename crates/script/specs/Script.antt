@@ -12,7 +12,7 @@ use Rattle.std.specs.Prelude.{◌≡◌, ℕ, zero, suc, ◌<◌, ◌≤◌, con
 use Rattle.book.specs.Book.{Book, fresh}
 use Rattle.book.specs.Calls as calls
 use Rattle.book.specs.Calls.{Call, Follows, write, blank, doubt, wipe, seal, solve, settle, done, refused, listed}
-use Rattle.book.specs.Codes.{Rows}
+use Rattle.algebra.specs.NumericCode.{NumericCode}
 use Rattle.book.specs.Story.{Leads, Story}
 use Rattle.book.specs.declared.code_fault.CodeFault.{CodeFault}
 use Rattle.field.specs.declared.fault.Refusal.{Refusal}
@@ -22,7 +22,7 @@ use Rattle.script.specs.declared.script.Ask.{Ask}
 use Rattle.script.specs.declared.script.Ask.TheVariants.{Write, Blank, Doubt, Wipe, Seal, Solve, Settle}
 use Rattle.script.specs.declared.script.Turn.{Turn}
 
-abbrev pub asked : {K : Type 0} → (K → Rows) → Ask K → Call
+abbrev pub asked : {K : Type 0} → (K → NumericCode) → Ask K → Call
 asked rows (Write v) = write v
 asked rows Blank = blank
 asked rows (Doubt place) = doubt place
@@ -40,18 +40,18 @@ heard (Ok (Listed l)) = listed l.records (length l.records) l.nonzero
 heard (Err why) = refused why
 
 -- turns and replies side by side, as far as there are both; only those of slip i
-abbrev pub calls_on : {K : Type 0} → (K → Rows) → ℕ → List (Turn K) → List Replied → List (Call × calls.Answer)
+abbrev pub calls_on : {K : Type 0} → (K → NumericCode) → ℕ → List (Turn K) → List Replied → List (Call × calls.Answer)
 calls_on rows i [] rs = []
 calls_on rows i (t ∷ ts) [] = []
 calls_on rows i (t ∷ ts) (r ∷ rs) = cond (t.slip == i) ((asked rows t.ask, heard r) ∷ calls_on rows i ts rs) (calls_on rows i ts rs)
 
-abbrev pub Stories : {K : Type 0} → (K → Rows) → List Book → List (Turn K) → List Replied → List Book → Type 0
+abbrev pub Stories : {K : Type 0} → (K → NumericCode) → List Book → List (Turn K) → List Replied → List Book → Type 0
 Stories rows before ts rs after = (i : ℕ) → i < length before → Leads (slice_index_or before i fresh) (calls_on rows i ts rs) (slice_index_or after i fresh)
 
-abbrev pub FreshStories : {K : Type 0} → (K → Rows) → List Book → List (Turn K) → List Replied → List Book → Type 0
+abbrev pub FreshStories : {K : Type 0} → (K → NumericCode) → List Book → List (Turn K) → List Replied → List Book → Type 0
 FreshStories rows before ts rs after = AllByRecursion (λ b. b ≡ fresh) before → (i : ℕ) → i < length before → Story (calls_on rows i ts rs) (slice_index_or after i fresh)
 
-abbrev pub Decided : {K : Type 0} → (K → Rows) → Type 0
+abbrev pub Decided : {K : Type 0} → (K → NumericCode) → Type 0
 Decided {K} rows = (b : Book) (ask : Ask K) (a a' : calls.Answer) (next next' : Book)
     → Follows b (asked rows ask) a next → Follows b (asked rows ask) a' next' → (a ≡ a') × (next ≡ next')
 

@@ -3,7 +3,8 @@
 ghost use Rattle.std.specs.Prelude.{◌≡◌, length, replicate};
 ghost use Rattle.book.specs.Calls.{Follows, said, seal, solve, settle};
 ghost use Rattle.book.specs.CodeFaults.{told};
-ghost use Rattle.book.specs.Codes.{Rows, Lawful, rows_of};
+ghost use Rattle.algebra.specs.NumericCode.{NumericCode};
+ghost use Rattle.book.specs.Codes.{Lawful};
 ghost use Rattle.mending.specs.Answers.{told_list};
 ghost use Rattle.either.specs.Either.{either};
 
@@ -23,7 +24,7 @@ pub trait CodeSet: Copy {
     type Desk;
 
     // The code that a value names, as its rows know it.
-    ghost rows: { Self → Rows };
+    ghost rows: { Self → NumericCode };
 
     // A desk is clear where each of its working lists holds ZEROs alone.
     ghost clear: { Self.Desk → Type 0 };
@@ -48,7 +49,8 @@ pub trait CodeSet: Copy {
         w: usize,
         desk: &mut Self::Desk,
     ) -> Result<(usize, usize), CodeFault>
-        ensures { Follows slip.now (solve (rows self) (length records.old) w) (told_list result records.new) slip.now };
+        ensures { Follows slip.now (solve (rows self) (length records.old) w)
+            (told_list result records.new) slip.now };
 
     /// The same, and the slip then holds that row, nothing doubted.
     fn settle(
@@ -58,13 +60,14 @@ pub trait CodeSet: Copy {
         w: usize,
         desk: &mut Self::Desk,
     ) -> Result<(usize, usize), CodeFault>
-        ensures { Follows slip.old (settle (rows self) (length records.old) w) (told_list result records.new) slip.new };
+        ensures { Follows slip.old (settle (rows self) (length records.old) w)
+            (told_list result records.new) slip.new };
 }
 
 impl<C: Checksum> CodeSet for One<C> {
     type Desk = Desk<C::CorrectionField>;
 
-    ghost rows = { λ _. rows_of C.SymbolField.numbers C.SymbolField.field C.code };
+    ghost rows = { λ _. C.rows };
 
     ghost clear = { λ d. d.work ≡ replicate 216 C.CorrectionField.field.𝟘 };
 

@@ -62,7 +62,8 @@ fn answer<K: CodeSet>(slip: &mut Slip, ask: Ask<K>, desk: &mut K::Desk) -> Reply
 
 // A solve that is lent records in fixed memory: no code lists more than sixteen.
 fn solve_turn<K: CodeSet>(slip: &Slip, code: K, lent: Lent, desk: &mut K::Desk) -> Reply
-    ensures { Follows slip.now (solve (K.rows code) lent.records lent.working) (heard result) slip.now }
+    ensures { Follows slip.now (solve (K.rows code) lent.records lent.working)
+        (heard result) slip.now }
 {
     K::laws();
     let mut records = [BLANK; 16];
@@ -74,7 +75,8 @@ fn solve_turn<K: CodeSet>(slip: &Slip, code: K, lent: Lent, desk: &mut K::Desk) 
 // The same of a settle. The two are not one function that takes the call as a closure: it would have to require of the call
 // that it lists no more than it is lent, and to tell what became of the slip that only one of them changes.
 fn settle_turn<K: CodeSet>(slip: &mut Slip, code: K, lent: Lent, desk: &mut K::Desk) -> Reply
-    ensures { Follows slip.old (settle (K.rows code) lent.records lent.working) (heard result) slip.new }
+    ensures { Follows slip.old (settle (K.rows code) lent.records lent.working)
+        (heard result) slip.new }
 {
     K::laws();
     let mut records = [BLANK; 16];

@@ -3,7 +3,7 @@ use Rattle.std.specs.Prelude.{ℕ}
 use Rattle.std.specs.declared.cmp.PartialEq as equality
 use Rattle.field.specs.declared.field.ExtensionField as extension
 use Rattle.field.specs.declared.field.Field as field
-use Rattle.correction.specs.Forney.{Valued}
+use Rattle.correction.specs.Steps.Forney.{Valued}
 use Rattle.correction.specs.declared.forney.Forney.{Forney}
 
 -- the change at a position is a symbol of the base, whose number is y

@@ -4,15 +4,16 @@
 --   Covers     each doubted place is named
 --   Formed     all of it, within the bound
 use Rattle.std.specs.Prelude.{◌≡◌, ℕ, ◌+◌, ◌*◌, ◌<◌, ◌≤◌, true, false, List, [], ◌∷◌, length}
+use Rattle.algebra.specs.NumericCode.{NumericCode}
 use Rattle.algebra.specs.Series.{Mem}
 use Rattle.book.specs.Book.{Book, doubts, doubted_at}
 use Rattle.book.specs.Mending.{places, elsewhere}
 use Rattle.book.specs.declared.record.Record.{Record}
 
-module _ (b : Book) (nothing : ℕ) where
+module _ (b : Book) (size nothing : ℕ) where
   pub record Admits (c : Record) : Type 0 where
     pub on_slip : c.place < length b
-    pub symbol : c.change < 32
+    pub symbol : c.change < size
     pub changed : doubted_at c.place b ≡ false → ¬ (c.change ≡ nothing)
 
   abbrev pub Sensible : List Record → Type 0
@@ -22,7 +23,7 @@ module _ (b : Book) (nothing : ℕ) where
 abbrev pub Covers : Book → List Record → Type 0
 Covers b cs = (p : ℕ) → doubted_at p b ≡ true → Mem p (places cs)
 
-pub record Formed (b : Book) (nothing bound : ℕ) (cs : List Record) : Type 0 where
-  pub sensible : Sensible b nothing cs
+pub record Formed (C : NumericCode) (b : Book) (cs : List Record) : Type 0 where
+  pub sensible : Sensible b C.size C.zero cs
   pub covers : Covers b cs
-  pub within : 2 * elsewhere b cs + doubts b ≤ bound
+  pub within : 2 * elsewhere b cs + doubts b ≤ C.bound

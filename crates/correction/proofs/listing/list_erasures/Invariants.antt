@@ -1,6 +1,6 @@
 use Rattle.std.proofs.Common.{length, drop}
 use Rattle.algebra.specs.Rows.{positions}
-use Rattle.correction.specs.Changes.{ChangeAt}
+use Rattle.correction.specs.Steps.Changes.{ChangeAt}
 use Rattle.correction.proofs.Onward.{Onward}
 use Rattle.correction.proofs.listing.list_erasures.Given as goal
 

@@ -1,8 +1,8 @@
 use Rattle.std.proofs.Common.{map, length}
 use Rattle.algebra.specs.Decode.{root_position}
 use Rattle.algebra.specs.Field.{HasOrder}
-use Rattle.correction.specs.Changes.{ChangeAt}
-use Rattle.correction.specs.Listing.{OnRow}
+use Rattle.correction.specs.Steps.Changes.{ChangeAt}
+use Rattle.correction.specs.Steps.Listing.{OnRow}
 use Rattle.correction.proofs.Onward.{Onward}
 use Rattle.polynomial.specs.Roots.{coming, roots}
 use Rattle.correction.proofs.listing.list_errors.Given as goal

@@ -1,7 +1,6 @@
 use Rattle.std.proofs.Common.{length}
 use Rattle.std.proofs.lemmas.Result.{err_from_is_err_and}
 use Rattle.book.specs.Calls.{solves}
-use Rattle.book.specs.Codes.{rows_of}
 use Rattle.mending.proofs.Finding.{solved}
 use Rattle.mending.proofs.mending.solve.Goals as goal
 
@@ -12,6 +11,6 @@ returns-in_err-found-clause-follows g c =
 
 pub returns-clause-follows : goal.returns-clause-follows
 returns-clause-follows g c =
-    let C = rows_of g.C.SymbolField.Field.numbers g.C.SymbolField.Field.field g.C.Checksum.code in
+    let C = g.C.Checksum.rows in
     solved C (length c.args.records.now) (length c.args.work.now) c.args.slip.now c.in_ok-found.found c.list.new.records c.args.records.now
     c.list.result.0 c.list.result.1 c.in_ok-found.ensures.found c.list.ensures.many c.list.ensures.changed c.list.ensures.listed

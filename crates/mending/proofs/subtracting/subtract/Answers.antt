@@ -1,13 +1,12 @@
 use Rattle.std.proofs.Common.{arith}
 use Rattle.std.proofs.lemmas.Grind.{common_steps}
-use Rattle.book.specs.Codes.{rows_of}
 use Rattle.mending.proofs.Lessening.{subtract_more, subtract_past}
 use Rattle.mending.proofs.subtracting.subtract.Goals as goal
 use Rattle.mending.proofs.subtracting.subtract.Goals.{then-record-symbols, else-record-symbols}
 
 pub loop-record-preserved : goal.loop-record-preserved
 loop-record-preserved g c =
-    let C = rows_of g.C.SymbolField.Field.numbers g.C.SymbolField.Field.field g.C.Checksum.code in
+    let C = g.C.Checksum.rows in
     let rs = c.args.records.now in
     let l = c.loop-record in
     elim c.if-record-symbols.branch [

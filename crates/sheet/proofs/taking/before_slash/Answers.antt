@@ -1,4 +1,4 @@
-use Rattle.std.proofs.Common.{ℕ, eqb, length, take, unwrap_or, sym, refl, ap, ◌∙◌, rules, tests}
+use Rattle.std.proofs.Common.{ℕ, eqb, length, take, unwrap_or, ap, ◌∙◌, rules, tests}
 use Rattle.std.proofs.lemmas.Iterator.{YieldsList-from_slice}
 use Rattle.std.proofs.lemmas.Iterator.Search.{position_from_yields_List}
 use Rattle.sheet.proofs.taking.before_slash.Goals as goal
