@@ -4,12 +4,11 @@
 #![tactic(auto)]
 
 use anyhow::{Context, anyhow, ensure};
-use checksum::checksum::Checksum;
-use checksum::engine::is_sound;
 use checksum::symbols::element;
-use codes::bech32::Bech32;
-use gf32::gf32::Fe32;
-use sheet::characters::{Character, read_character};
+use checksum::{Bech32, Checksum, is_sound};
+use fields::Fe32;
+use sheet::Character;
+use sheet::characters::read_character;
 use std::alloc::Global;
 use std::io::{BufRead, BufReader};
 

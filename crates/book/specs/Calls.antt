@@ -5,7 +5,7 @@
 --   Mends     what a search for a near row answers, and the row that it gives, if any
 --   Follows   a call on a book, its answer, and the book after it
 use Rattle.std.specs.Prelude.{◌≡◌, ℕ, ◌+◌, ◌*◌, Bool, cond, List, [], ◌∷◌, ◌++◌, map, length, Some, None, Ok, Err, Option, Result, ◌==◌, nat_le, nat_lt}
-use Rattle.field.specs.declared.fault.Refusal.{Refusal}
+use Rattle.fields.specs.declared.fault.Refusal.{Refusal}
 use Rattle.book.specs.Book as book
 use Rattle.book.specs.Book.{Book, sure, row, doubts, fresh, after}
 use Rattle.algebra.specs.NumericCode.{NumericCode}

@@ -1,7 +1,7 @@
 -- What each refusal of a code tells: its number, its layer and its place. Assumes nothing.
 use Rattle.std.specs.Prelude.{ℕ}
-use Rattle.field.specs.declared.fault.Refusal.{Refusal}
-use Rattle.field.specs.declared.fault.Layer.TheVariants.{Code}
+use Rattle.fields.specs.declared.fault.Refusal.{Refusal}
+use Rattle.fields.specs.declared.fault.Layer.TheVariants.{Code}
 use Rattle.book.specs.declared.code_fault.CodeFault.{CodeFault}
 use Rattle.book.specs.declared.code_fault.CodeFault.TheVariants.{Short, Long, Records, Working, Doubts, Unfit}
 

@@ -1,6 +1,6 @@
 -- What is promised of solve and settle by a code. Assumes nothing.
 use Rattle.std.specs.Prelude.{◌≡◌, ℕ, ◌+◌, ◌*◌, ◌<◌, ◌≤◌, ◌⊎◌, List, map, length}
-use Rattle.field.specs.declared.fault.Refusal.{Refusal}
+use Rattle.fields.specs.declared.fault.Refusal.{Refusal}
 use Rattle.book.specs.Book.{Book, sure}
 use Rattle.book.specs.Calls.{Answer, Follows, lists, doubt, solve, settle, done, refused, listed}
 use Rattle.algebra.specs.NumericCode.{NumericCode}

@@ -1,6 +1,6 @@
 -- What each refusal of a slip tells: its number, its layer and its place. Assumes nothing.
-use Rattle.field.specs.declared.fault.Refusal.{Refusal}
-use Rattle.field.specs.declared.fault.Layer.TheVariants.{Slip}
+use Rattle.fields.specs.declared.fault.Refusal.{Refusal}
+use Rattle.fields.specs.declared.fault.Layer.TheVariants.{Slip}
 use Rattle.book.specs.declared.slip_fault.SlipFault.{SlipFault}
 use Rattle.book.specs.declared.slip_fault.SlipFault.TheVariants.{Symbol, Full, Absent}
 

@@ -2,7 +2,7 @@
 ghost use Rattle.std.specs.Prelude.{◌≡◌};
 ghost use Rattle.book.specs.CodeFaults.{told};
 
-use field::fault::{Layer, Refusal};
+use fields::{Layer, Refusal};
 
 /// Why a code refuses to seal or to mend a slip.
 #[derive(Clone, Copy, PartialEq, Eq, Debug)]

@@ -3,6 +3,9 @@
 #![tactic(auto)]
 
 pub mod code_fault;
-pub mod pattern;
 pub mod record;
 pub mod slip_fault;
+
+pub use code_fault::CodeFault;
+pub use record::{BLANK, Record};
+pub use slip_fault::SlipFault;

@@ -2,7 +2,7 @@
 ghost use Rattle.std.specs.Prelude.{◌≡◌};
 ghost use Rattle.book.specs.SlipFaults.{told};
 
-use field::fault::{Layer, Refusal};
+use fields::{Layer, Refusal};
 
 /// Why a slip refuses. A place counts the slip's symbols, from 0.
 #[derive(Clone, Copy, PartialEq, Eq, Debug)]

@@ -5,7 +5,7 @@ ghost use Rattle.algebra.specs.Code.{Code, Lawful, bound, checks, generator};
 ghost use Rattle.algebra.specs.NumericCode.{NumericCode, rows_of};
 ghost use Rattle.algebra.specs.Poly.{coeff};
 
-use field::field::{ExtensionField, Field};
+use fields::{ExtensionField, Field};
 
 /// A code: the rows of symbols whose residue, modulo a generator polynomial, is the target. A code is named by a type
 /// that needs no value.

@@ -5,8 +5,8 @@ ghost use Rattle.algebra.specs.Poly.{poly_sub};
 ghost use Rattle.algebra.specs.Remainder.{Remainder};
 
 use crate::checksum::Checksum;
-use field::arithmetic::difference;
-use field::field::Field;
+use fields::Field;
+use fields::arithmetic::difference;
 use std::marker::Model;
 use std::mem;
 

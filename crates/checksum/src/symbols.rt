@@ -2,7 +2,7 @@
 ghost use Rattle.std.specs.Prelude.{◌≡◌, ◌<◌, ◌≤◌, Some, None};
 
 use crate::checksum::Checksum;
-use field::field::Field;
+use fields::Field;
 
 /// The number of a symbol. By `as`: that the number fits is the alphabet's law, which `try_from` would test again.
 pub fn number<C: Checksum>(symbol: C::SymbolField) -> u8

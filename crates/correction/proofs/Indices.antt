@@ -6,11 +6,11 @@ use Rattle.std.specs.List.{slice_get}
 use Rattle.algebra.specs.Decode.{root_position}
 use Rattle.algebra.specs.Field.{FieldOn, HasOrder}
 use Rattle.book.specs.declared.record.Record.{Record}
-use Rattle.fieldvec.specs.Faults.{asked}
-use Rattle.fieldvec.specs.declared.fault.ListFault.{ListFault}
-use Rattle.fieldvec.proofs.Filled.{asked_some}
-use Rattle.polynomial.specs.Roots.{roots, coming, Stepped}
-use Rattle.polynomial.specs.declared.roots.Roots.{Roots}
+use Rattle.lists.specs.Faults.{asked}
+use Rattle.lists.specs.declared.fault.ListFault.{ListFault}
+use Rattle.lists.proofs.Filled.{asked_some}
+use Rattle.lists.specs.Roots.{roots, coming, Stepped}
+use Rattle.lists.specs.declared.roots.Roots.{Roots}
 use Rattle.correction.specs.Steps.Listing.{Lists}
 use Rattle.correction.proofs.Onward.{Onward}
 

@@ -21,13 +21,13 @@ use Rattle.book.specs.Codes.{Near}
 use Rattle.book.specs.Mending.{changes}
 use Rattle.book.proofs.Fitting.{few_changes}
 use Rattle.book.proofs.Numbers.{Below, elements, in_elements, length_elements, row_elements, marks_elements, near_elements}
-use Rattle.decoding.proofs.Found.{locator_found, evaluator_found, errata_found}
-use Rattle.decoding.proofs.Listed.{root_list, change_number, Right, doubted_right, roots_right, listed_changes}
-use Rattle.polynomial.specs.Roots.{roots}
+use Rattle.correction.proofs.Found.{locator_found, evaluator_found, errata_found}
+use Rattle.correction.proofs.Listed.{root_list, change_number, Right, doubted_right, roots_right, listed_changes}
+use Rattle.lists.specs.Roots.{roots}
 use Rattle.correction.specs.Steps.Decoded.{located, Told, found, Complete, Tells}
 use Rattle.correction.specs.Steps.Forney.{Valued}
 use Rattle.correction.specs.Steps.Listing.{OnRow, record_of}
-use Rattle.book.specs.declared.pattern.Pattern.{Pattern}
+use Rattle.correction.specs.declared.pattern.Pattern.{Pattern}
 
 module _ {S E : Type 0} (N : Numbers S) (s : FieldOn S) (e : FieldOn E) (up : S → E) (L : Lifts s e up) (C : Code S E) (lawful : Lawful s e up C)
     (M : Numbers E) (g : E) (size : ℕ) (cyclic : Cyclic e M g size) (b : Book) (below : Below N (row b)) (list : List E)

@@ -7,7 +7,7 @@ use Rattle.std.proofs.lemmas.Option.{none-some}
 use Rattle.algebra.specs.Rows.{positions}
 use Rattle.book.specs.declared.record.Record.{Record}
 use Rattle.correction.specs.Steps.Listing.{record_of, Added, Listable, Lists}
-use Rattle.book.specs.Patterns.{Pushed}
+use Rattle.correction.specs.Patterns.{Pushed}
 
 pub pushed_added : (new : Record) (before after : List Record) (r : Option (Unit {0})) → Pushed new before r after → Added new before r after
 pushed_added new before after None p room = let full = p.0 in absurd (omega arith)

@@ -12,9 +12,9 @@ use Rattle.algebra.specs.Rows.{count, positions}
 use Rattle.algebra.specs.Series.{deriv}
 use Rattle.algebra.proofs.Flags.{length_positions}
 use Rattle.algebra.proofs.Members.{all_map}
-use Rattle.book.specs.declared.pattern.Pattern.{Pattern}
+use Rattle.correction.specs.declared.pattern.Pattern.{Pattern}
 use Rattle.book.specs.declared.record.Record.{Record}
-use Rattle.polynomial.specs.Roots.{roots}
+use Rattle.lists.specs.Roots.{roots}
 use Rattle.correction.specs.Steps.Decoded.{located, Told, found, Complete, Tells}
 use Rattle.correction.specs.Steps.Forney.{Valued}
 use Rattle.correction.specs.Steps.Listing.{OnRow, Lists, record_of}

@@ -5,10 +5,10 @@ use Rattle.algebra.specs.Poly.{coeff}
 use Rattle.algebra.specs.Series.{times}
 use Rattle.algebra.proofs.Berlekamp.{shortest}
 use Rattle.algebra.proofs.Tab.{length_tab}
-use Rattle.lfsr.specs.Registers.{connection}
-use Rattle.polynomial.specs.Lists.{convolved, degree, derivative, product}
-use Rattle.polynomial.proofs.Degrees.{degree_below}
-use Rattle.products.proofs.Tabulated.{length_some_terms}
+use Rattle.lists.specs.Registers.{connection}
+use Rattle.lists.specs.Lists.{convolved, degree, derivative, product}
+use Rattle.lists.proofs.Degrees.{degree_below}
+use Rattle.lists.proofs.Tabulated.{length_some_terms}
 
 module _ {A : Type 0} (F : FieldOn A) where
   pub some_convolved : (p s : List A) → 0 < length (convolved F p s)

@@ -6,14 +6,14 @@ use Rattle.algebra.specs.Field.{FieldOn, pow}
 use Rattle.algebra.specs.Poly.{eval}
 use Rattle.algebra.proofs.Laws.{inv_unique, mul_left_comm, mul_ne_zero, mul_one}
 use Rattle.algebra.proofs.Orders.{pow_ne_zero}
-use Rattle.field.specs.Elements.{inverse}
-use Rattle.field.specs.Powers.{divided}
-use Rattle.field.specs.declared.fault.FieldFault.{FieldFault}
-use Rattle.field.specs.declared.fault.FieldFault.TheVariants.{Zero}
-use Rattle.field.proofs.Refusals.{inverse_of_other}
-use Rattle.fieldvec.specs.Faults.{asked}
-use Rattle.fieldvec.specs.declared.fault.ListFault.{ListFault}
-use Rattle.fieldvec.proofs.Filled.{asked_some}
+use Rattle.fields.specs.Elements.{inverse}
+use Rattle.fields.specs.Powers.{divided}
+use Rattle.fields.specs.declared.fault.FieldFault.{FieldFault}
+use Rattle.fields.specs.declared.fault.FieldFault.TheVariants.{Zero}
+use Rattle.fields.proofs.Refusals.{inverse_of_other}
+use Rattle.lists.specs.Faults.{asked}
+use Rattle.lists.specs.declared.fault.ListFault.{ListFault}
+use Rattle.lists.proofs.Filled.{asked_some}
 use Rattle.correction.specs.Steps.Forney.{forney}
 
 -- a list that has entries is not refused

@@ -7,7 +7,7 @@ use Rattle.book.specs.Book.{Book}
 use Rattle.algebra.specs.NumericCode.{NumericCode}
 use Rattle.book.specs.Codes.{Near}
 use Rattle.book.specs.Mending.{changes}
-use Rattle.book.specs.declared.pattern.Pattern.{Pattern}
+use Rattle.correction.specs.declared.pattern.Pattern.{Pattern}
 
 -- wherever a row is near, and within the limit, a working list of w entries being long enough: the proposal is its changes
 abbrev pub Proposes : NumericCode → Book → ℕ → Option Pattern → Type 0

@@ -11,12 +11,12 @@ ghost use Rattle.slip.specs.View.{Holdable};
 use crate::forney::Forney;
 use crate::listing::{list_erasures, list_errors};
 use crate::locating::{Located, locate};
+use crate::pattern::Pattern;
 use crate::syndromes::syndromes;
-use book::pattern::Pattern;
-use checksum::checksum::{Checksum, bound};
-use field::field::{ExtensionField, Field};
-use fieldvec::fieldvec::clear;
-use slip::slip::Slip;
+use checksum::{Checksum, bound};
+use fields::{ExtensionField, Field};
+use lists::fieldvec::clear;
+use slip::Slip;
 
 /// Proposes the records that mend the slip's row by a code. Wherever a row is near, they are the changes from it; where
 /// none is, they may be anything, so a proposal is to be checked. The working list has 12 × (bound + 2) entries at least: it is

@@ -4,10 +4,10 @@ ghost use Rattle.algebra.specs.Field.{pow};
 ghost use Rattle.algebra.specs.Poly.{eval};
 ghost use Rattle.correction.specs.Steps.Forney.{forney, Valued};
 
-use field::arithmetic::quotient;
-use field::field::{ExtensionField, Field};
-use field::powers::powers;
-use polynomial::polynomial::evaluate;
+use fields::arithmetic::quotient;
+use fields::powers::powers;
+use fields::{ExtensionField, Field};
+use lists::polynomial::evaluate;
 
 /// What the equation reads: the evaluator, the derivative, and where the roots of the generator polynomial begin, which
 /// are powers of one element.

@@ -5,14 +5,14 @@ ghost use Rattle.algebra.specs.Field.{HasOrder};
 ghost use Rattle.algebra.specs.Rows.{positions};
 ghost use Rattle.correction.specs.Steps.Changes.{ChangeAt};
 ghost use Rattle.correction.specs.Steps.Listing.{Added, Lists, OnRow};
-ghost use Rattle.polynomial.specs.Roots.{roots as root_indices};
+ghost use Rattle.lists.specs.Roots.{roots as root_indices};
 
 use crate::forney::Forney;
-use book::pattern::Pattern;
-use book::record::Record;
-use field::field::{ExtensionField, Field};
-use field::powers::multiplicative_order;
-use polynomial::polynomial::find_nonzero_distinct_roots;
+use crate::pattern::Pattern;
+use book::Record;
+use fields::powers::multiplicative_order;
+use fields::{ExtensionField, Field};
+use lists::polynomial::find_nonzero_distinct_roots;
 
 // The record of a place more, none where its change cannot be had or where there is no room for it.
 fn list_place<E: ExtensionField>(

@@ -7,14 +7,14 @@ ghost use Rattle.algebra.specs.Field.{pow};
 ghost use Rattle.algebra.specs.Poly.{coeff, eval};
 ghost use Rattle.algebra.specs.Rows.{count, positions};
 ghost use Rattle.algebra.specs.Series.{deriv, lin, locator};
-ghost use Rattle.lfsr.specs.Registers.{connection};
-ghost use Rattle.polynomial.specs.Lists as spec;
+ghost use Rattle.lists.specs.Registers.{connection};
+ghost use Rattle.lists.specs.Lists as spec;
 
-use field::arithmetic::difference;
-use field::field::Field;
-use lfsr::lfsr::berlekamp_massey;
-use polynomial::polynomial::formal_derivative;
-use products::products::{convolution, mul_mod_x_d};
+use fields::Field;
+use fields::arithmetic::difference;
+use lists::berlekamp_massey;
+use lists::polynomial::formal_derivative;
+use lists::products::{convolution, mul_mod_x_d};
 use std::mem;
 
 /// What decoding finds: the error locator, and the evaluator and the derivative of the locator of errors and erasures.

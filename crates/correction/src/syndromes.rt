@@ -8,12 +8,12 @@ ghost use Rattle.algebra.specs.Rows.{syndrome};
 ghost use Rattle.book.specs.Book.{row};
 ghost use Rattle.slip.specs.Sealing.{elements};
 
-use checksum::checksum::Checksum;
-use field::arithmetic::difference;
-use field::field::{ExtensionField, Field};
-use field::powers::powers;
-use polynomial::polynomial::evaluate_lifted;
-use slip::slip::Slip;
+use checksum::Checksum;
+use fields::arithmetic::difference;
+use fields::powers::powers;
+use fields::{ExtensionField, Field};
+use lists::polynomial::evaluate_lifted;
+use slip::Slip;
 
 // The values of a list at consecutive powers of an element, from an exponent on.
 fn values_at_powers<E: ExtensionField>(list: &[E::BaseField], a: E, first: usize, out: &mut [E])

@@ -18,11 +18,11 @@ use Rattle.book.specs.Codes.{Lawful, Near, Sound}
 use Rattle.book.specs.declared.code_fault.CodeFault.TheVariants.{Unfit}
 use Rattle.book.proofs.Numbers.{all_below_all, rows_lawful, near_elements, in_elements, elements, elements_numbers}
 use Rattle.book.proofs.Same.{same}
-use Rattle.codes.specs.Finish.{finish, finish_rows}
-use Rattle.codes.proofs.FinishLaws.{finish_lawful}
-use Rattle.gf32.specs.Binary.{product}
-use Rattle.gf32.specs.Gf32.{gf32, fe_discrete, fe_path, gf32_numbers}
-use Rattle.gf32.specs.declared.gf32.Fe32.{Fe32}
+use Rattle.checksum.specs.Finish.{finish, finish_rows}
+use Rattle.checksum.proofs.FinishLaws.{finish_lawful}
+use Rattle.fields.specs.Binary.{product}
+use Rattle.fields.specs.Gf32.{gf32, fe_discrete, fe_path, gf32_numbers}
+use Rattle.fields.specs.declared.gf32.Fe32.{Fe32}
 use Rattle.examples.specs.Mended.{sent, garbled, unsound, unchecked, Solves, Mended}
 
 lifts : Lifts gf32 gf32 (λ (x : Fe32). x)

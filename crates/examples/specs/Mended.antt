@@ -6,7 +6,7 @@ use Rattle.book.specs.Calls.{Answer, Follows, solve, refused, listed}
 use Rattle.book.specs.CodeFaults.{told}
 use Rattle.book.specs.declared.code_fault.CodeFault.TheVariants.{Unfit}
 use Rattle.book.specs.declared.record.Record.{Record}
-use Rattle.codes.specs.Finish.{finish_rows}
+use Rattle.checksum.specs.Finish.{finish_rows}
 
 abbrev pub sent : List ℕ
 sent = 4 ∷ 20 ∷ 20 ∷ 12 ∷ 15 ∷ 31 ∷ 0 ∷ 6 ∷ 10 ∷ 17 ∷ 15 ∷ 18 ∷ []

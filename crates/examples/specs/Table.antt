@@ -4,12 +4,12 @@ use Rattle.algebra.specs.Code.{seal}
 use Rattle.algebra.specs.Field.{pow}
 use Rattle.algebra.specs.Poly.{coeff}
 use Rattle.algebra.specs.Register.{register}
-use Rattle.codes.specs.Finish.{finish}
-use Rattle.gf32.specs.Gf32.{gf32, gf32_numbers}
-use Rattle.gf32.specs.declared.gf32.Fe32.{Fe32}
-use Rattle.gf32_ext.specs.Gf1024.{gf1024, fe1024}
-use Rattle.gf32_ext.specs.declared.fe1024.Fe1024.{Fe1024}
-use Rattle.polynomial.specs.Lists.{product}
+use Rattle.checksum.specs.Finish.{finish}
+use Rattle.fields.specs.Gf32.{gf32, gf32_numbers}
+use Rattle.fields.specs.declared.gf32.Fe32.{Fe32}
+use Rattle.fields.specs.Gf1024.{gf1024, fe1024}
+use Rattle.fields.specs.declared.gf1024.Fe1024.{Fe1024}
+use Rattle.lists.specs.Lists.{product}
 
 abbrev element : ℕ → Fe32
 element = gf32_numbers.element

@@ -3,10 +3,9 @@
 // symbols were changed, the sail number, and the seconds since midnight.
 #![tactic(auto)]
 
-use hut_lines::streams::finish_stream;
+use sheet::line_reading::has_more;
+use sheet::{INPUT_BYTES, finish_stream};
 use std::io::BufReader;
-use stream::answering::INPUT_BYTES;
-use stream::reading::has_more;
 
 fn run(rt: &HostRuntime) -> anyhow::Result<()> {
     // The buffer may take up to 8,192 bytes past the limit from an input that other programs read too.

@@ -2,13 +2,12 @@
 // Where five are doubted, there are too few left to mend it from, and it is refused.
 #![tactic(auto)]
 
-use book::record::{BLANK, Record};
-use codes::finish::Finish;
-use field::fault::Refusal;
-use gf32::gf32::Fe32;
-use mending::lengths::{MOST_RECORDS, MOST_WORK};
-use mending::mending::settle;
-use slip::slip::Slip;
+use book::{BLANK, Record};
+use checksum::Finish;
+use correction::lengths::{MOST_RECORDS, MOST_WORK};
+use correction::settle;
+use fields::{Fe32, Refusal};
+use slip::Slip;
 use std::io;
 use std::io::Write;
 

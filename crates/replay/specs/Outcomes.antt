@@ -1,6 +1,6 @@
 -- How an outcome is written. Assumes nothing.
 use Rattle.std.specs.Prelude.{◌≡◌, ℕ, List, ◌++◌, Option, codes, decimal, IfSome}
-use Rattle.field.specs.declared.fault.Refusal.{Refusal}
+use Rattle.fields.specs.declared.fault.Refusal.{Refusal}
 
 -- the text is what a value prints, if its type says what that is
 abbrev pub IsPrinted : Option (List ℕ) → List ℕ → Type 0

@@ -5,7 +5,7 @@ ghost use Rattle.std.specs.Result.{OkIff};
 
 use crate::commas::WithCommas;
 use anyhow::Context;
-use field::field::Field;
+use fields::Field;
 use std::alloc::Global;
 use std::fmt;
 use std::fmt::Display;

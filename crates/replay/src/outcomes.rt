@@ -2,7 +2,7 @@
 ghost use Rattle.std.specs.Prelude.{◌≡◌, IfOk, IfErr, string_bytes};
 ghost use Rattle.replay.specs.Outcomes.{IsPrinted, IsRefused};
 
-use field::fault::Refusal;
+use fields::Refusal;
 use std::alloc::Global;
 use std::fmt::Display;
 
@@ -31,7 +31,7 @@ pub fn write_outcome<T: Display + Drop, E: Into<Refusal>>(
 #[cfg(test)]
 mod tests {
     use super::*;
-    use field::fault::FieldFault;
+    use fields::FieldFault;
 
     #[test]
     fn writes_the_number(rt: HostRuntime) -> anyhow::Result<()> {

@@ -7,17 +7,14 @@
 #![tactic(auto)]
 
 use anyhow::{Context, anyhow};
-use book::code_fault::CodeFault;
-use book::record::{BLANK, Record};
-use checksum::checksum::Checksum;
-use codes::bech32::Bech32;
-use codes::finish::Finish;
-use field::field::Field;
-use mending::mending::{settle, solve};
+use book::{BLANK, CodeFault, Record};
+use checksum::{Bech32, Checksum, Finish};
+use correction::{settle, solve};
+use fields::Field;
 use replay::commas::WithCommas;
 use replay::lines::replay;
 use replay::outcomes::write_outcome;
-use slip::slip::Slip;
+use slip::Slip;
 use std::alloc::Global;
 use std::fmt;
 use std::fmt::Display;

@@ -8,12 +8,9 @@
 #![tactic(auto)]
 
 use anyhow::{Context, anyhow};
-use field::arithmetic::{difference, muli, quotient};
-use field::field::{ExtensionField, Field};
-use field::powers::{multiplicative_order, powi};
-use gf32::gf32::Fe32;
-use gf32_ext::fe1024::Fe1024;
-use gf32768::fe32768::Fe32768;
+use fields::arithmetic::{difference, muli, quotient};
+use fields::powers::{multiplicative_order, powi};
+use fields::{ExtensionField, Fe32, Fe1024, Fe32768, Field};
 use replay::elements::{ByNumber, read_element, write_element};
 use replay::lines::replay;
 use replay::outcomes::write_outcome;

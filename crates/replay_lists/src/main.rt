@@ -14,11 +14,8 @@ mod outcomes;
 mod registers;
 
 use anyhow::{Context, anyhow};
-use field::field::Field;
-use gf32::gf32::Fe32;
-use gf32_ext::fe1024::Fe1024;
-use gf32768::fe32768::Fe32768;
-use lists::answer_list;
+use coefficients::answer_list;
+use fields::{Fe32, Fe1024, Fe32768, Field};
 use registers::answer_register;
 use replay::lines::replay;
 use std::alloc::Global;

@@ -1,7 +1,7 @@
 // Outcomes of the functions that write their answer into a list that is lent to them.
 use anyhow::Context;
-use field::field::Field;
-use fieldvec::fault::ListFault;
+use fields::Field;
+use lists::ListFault;
 use replay::elements::write_elements;
 use replay::outcomes::write_refusal;
 use std::alloc::Global;

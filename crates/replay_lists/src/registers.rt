@@ -1,7 +1,7 @@
 // The register that generates given terms.
 use crate::outcomes::write_front;
-use field::field::Field;
-use lfsr::lfsr::berlekamp_massey;
+use fields::Field;
+use lists::berlekamp_massey;
 use replay::elements::read_elements;
 use std::alloc::Global;
 

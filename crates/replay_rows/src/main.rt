@@ -4,11 +4,8 @@
 #![tactic(auto)]
 
 use anyhow::{Context, anyhow};
-use checksum::checksum::Checksum;
-use checksum::engine::{Engine, seal};
-use codes::bech32::Bech32;
-use codes::finish::Finish;
-use gf32::gf32::Fe32;
+use checksum::{Bech32, Checksum, Engine, Finish, seal};
+use fields::Fe32;
 use replay::elements::{read_elements, write_elements};
 use replay::lines::replay;
 use std::alloc::Global;

@@ -2,7 +2,7 @@
 --   wrote, blanked, doubted, wiped   from the equations of each call
 --   sealed                           from those of a seal, by a code whose seals seal
 use Rattle.std.proofs.Common.{◌≡◌, ℕ, ◌+◌, Bool, true, false, cond, eqb, ltb, ◌++◌, map, length, Ok, Err, Result, sym, refl, ap, ◌∙◌, subst}
-use Rattle.field.specs.declared.fault.Refusal.{Refusal}
+use Rattle.fields.specs.declared.fault.Refusal.{Refusal}
 use Rattle.algebra.specs.Code.{Code, checks}
 use Rattle.algebra.specs.Field.{FieldOn, Numbers}
 use Rattle.book.specs.Book as book

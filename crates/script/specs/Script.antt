@@ -15,7 +15,7 @@ use Rattle.book.specs.Calls.{Call, Follows, write, blank, doubt, wipe, seal, sol
 use Rattle.algebra.specs.NumericCode.{NumericCode}
 use Rattle.book.specs.Story.{Leads, Story}
 use Rattle.book.specs.declared.code_fault.CodeFault.{CodeFault}
-use Rattle.field.specs.declared.fault.Refusal.{Refusal}
+use Rattle.fields.specs.declared.fault.Refusal.{Refusal}
 use Rattle.script.specs.declared.script.Answer.{Answer}
 use Rattle.script.specs.declared.script.Answer.TheVariants.{Done, Listed}
 use Rattle.script.specs.declared.script.Ask.{Ask}

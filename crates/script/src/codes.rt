@@ -5,17 +5,16 @@ ghost use Rattle.book.specs.Calls.{Follows, said, seal, solve, settle};
 ghost use Rattle.book.specs.CodeFaults.{told};
 ghost use Rattle.algebra.specs.NumericCode.{NumericCode};
 ghost use Rattle.book.specs.Codes.{Lawful};
-ghost use Rattle.mending.specs.Answers.{told_list};
+ghost use Rattle.correction.specs.Answers.{told_list};
 ghost use Rattle.either.specs.Either.{either};
 
 use crate::members::{Desk, One};
-use book::code_fault::CodeFault;
-use book::record::Record;
-use checksum::checksum::Checksum;
+use book::{CodeFault, Record};
+use checksum::Checksum;
+use correction::{settle, solve};
 use either::{Either, Left, Right};
-use field::field::{ExtensionField, Field};
-use mending::mending::{settle, solve};
-use slip::slip::Slip;
+use fields::{ExtensionField, Field};
+use slip::Slip;
 
 /// A set of codes. A value of it names one of them; its desk owns the working lists of all of them, each over the field
 /// in which its code corrects, so that a caller need not know those fields. The slip, the records and the desk of a call are lent by

@@ -6,3 +6,8 @@ pub mod listing;
 pub mod members;
 pub mod run;
 pub mod script;
+
+pub use codes::CodeSet;
+pub use listing::Listing;
+pub use members::{Desk, One};
+pub use script::{Answer, Ask, Lent, Reply, Turn};

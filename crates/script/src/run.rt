@@ -2,16 +2,15 @@
 ghost use Rattle.std.specs.Prelude.{◌≡◌, length};
 ghost use Rattle.book.specs.Calls.{Follows, solve, settle};
 ghost use Rattle.book.specs.Promise.{Promise};
-ghost use Rattle.mending.specs.Answers.{told_list};
+ghost use Rattle.correction.specs.Answers.{told_list};
 ghost use Rattle.script.specs.Script.{asked, heard, Few, Stories, FreshStories, Decided, Untouched};
 
 use crate::codes::CodeSet;
 use crate::listing::Listing;
 use crate::script::{Answer, Ask, Lent, Reply, Turn};
-use book::code_fault::CodeFault;
-use book::pattern::Pattern;
-use book::record::{BLANK, Record};
-use slip::slip::Slip;
+use book::{BLANK, CodeFault, Record};
+use correction::Pattern;
+use slip::Slip;
 
 /// Runs a script: makes the turns' calls one after another, each on the slip that its turn names, and puts each answer
 /// at its turn's place among the replies. A turn that names no slip is passed over; where replies are fewer than turns,

@@ -1,6 +1,6 @@
 // What is asked of slips, and what they answer.
 use crate::listing::Listing;
-use field::fault::Refusal;
+use fields::Refusal;
 
 /// How much memory a call is lent.
 #[derive(Clone, Copy)]

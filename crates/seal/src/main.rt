@@ -3,10 +3,9 @@
 // with the number of the refusal and the byte where it lies.
 #![tactic(auto)]
 
-use seal_lines::streams::seal_stream;
+use sheet::line_reading::has_more;
+use sheet::{INPUT_BYTES, seal_stream};
 use std::io::BufReader;
-use stream::answering::INPUT_BYTES;
-use stream::reading::has_more;
 
 fn run(rt: &HostRuntime) -> anyhow::Result<()> {
     // The buffer may take up to 8,192 bytes past the limit from an input that other programs read too.

@@ -9,8 +9,8 @@ use Rattle.book.specs.Calls.{Call, Follows, said, done, wipe, write, blank, writ
 use Rattle.book.specs.SlipFaults as slip
 use Rattle.book.specs.Story.{Leads}
 use Rattle.book.specs.declared.slip_fault.SlipFault.{SlipFault}
-use Rattle.typed.proofs.Fronts.{one_before}
-use Rattle.typed.specs.Pieces.{Part, remark, closed, pieces_after}
+use Rattle.sheet.proofs.Fronts.{one_before}
+use Rattle.sheet.specs.Pieces.{Part, remark, closed, pieces_after}
 use Rattle.sheet.specs.Calls.{all_done, call_of, calls_of, calls_of_bytes, calls_of_part}
 use Rattle.sheet.specs.Characters.{character_of}
 use Rattle.sheet.specs.Taking.{before_slash, is_other, line_case, at_byte, and_then, entered, taken_all, take_line}

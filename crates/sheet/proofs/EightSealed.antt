@@ -4,8 +4,8 @@ use Rattle.std.proofs.lemmas.List.{length-append, length-map}
 use Rattle.algebra.specs.Code as code
 use Rattle.algebra.specs.Code.{checks}
 use Rattle.algebra.proofs.Sealing.{length_seal}
-use Rattle.codes.specs.Finish.{finish}
-use Rattle.gf32.specs.Gf32.{gf32, gf32_numbers}
+use Rattle.checksum.specs.Finish.{finish}
+use Rattle.fields.specs.Gf32.{gf32, gf32_numbers}
 use Rattle.book.specs.Book.{Book, after, row, sure}
 use Rattle.book.proofs.Rows.{row_append, row_sure}
 use Rattle.slip.specs.Sealing.{check_symbols, elements, seal}

@@ -4,7 +4,7 @@
 use Rattle.std.specs.Prelude.{ℕ, List, [], ◌∷◌, map, Some, None, Option}
 use Rattle.std.specs.List.{flat_map}
 use Rattle.book.specs.Calls.{Answer, Call, blank, done, wipe, write}
-use Rattle.typed.specs.Pieces.{Part, group, remark, pieces}
+use Rattle.sheet.specs.Pieces.{Part, group, remark, pieces}
 use Rattle.sheet.specs.Characters.{character_of}
 use Rattle.sheet.specs.declared.characters.Character.{Character}
 use Rattle.sheet.specs.declared.characters.Character.TheVariants.{Symbol, QuestionMark}

@@ -1,6 +1,6 @@
 -- What each refusal of a line tells: its number, its layer and its place. Assumes nothing.
-use Rattle.field.specs.declared.fault.Refusal.{Refusal}
-use Rattle.field.specs.declared.fault.Layer.TheVariants.{Line}
+use Rattle.fields.specs.declared.fault.Refusal.{Refusal}
+use Rattle.fields.specs.declared.fault.Layer.TheVariants.{Line}
 use Rattle.book.specs.SlipFaults as slip
 use Rattle.sheet.specs.declared.fault.LineFault.{LineFault}
 use Rattle.sheet.specs.declared.fault.LineFault.TheVariants.{OnSlip, OutsideSet, OtherCase, SymbolCount, LateTime}

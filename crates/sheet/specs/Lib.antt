@@ -1,3 +1,10 @@
+pub mod Cursors
+pub mod Lines
+pub mod Pieces
+pub mod Columns
+pub mod OutputLines
+pub mod Reading
+pub mod Streams
 pub mod Calls
 pub mod Characters
 pub mod Faults
@@ -6,3 +13,5 @@ pub mod ReadingOff
 pub mod Sealed
 pub mod SheetFaults
 pub mod Taking
+pub mod Shown
+pub mod Written

@@ -1,7 +1,7 @@
 -- The sealed row of a boat's line, as text. Assumes nothing.
 use Rattle.std.specs.Prelude.{ℕ, false, cond, List, ◌++◌, length, Ok, Err, Result, ◌==◌}
-use Rattle.codes.specs.Finish.{finish}
-use Rattle.gf32.specs.Gf32.{gf32, gf32_numbers}
+use Rattle.checksum.specs.Finish.{finish}
+use Rattle.fields.specs.Gf32.{gf32, gf32_numbers}
 use Rattle.book.specs.Book.{Book, row}
 use Rattle.slip.specs.Sealing.{check_symbols}
 use Rattle.sheet.specs.Groups.{in_groups}

@@ -1,6 +1,6 @@
 -- What the refusal of a sheet's line tells: its number, its layer and its place. Assumes nothing.
-use Rattle.field.specs.declared.fault.Refusal.{Refusal}
-use Rattle.field.specs.declared.fault.Layer.TheVariants.{Sheet}
+use Rattle.fields.specs.declared.fault.Refusal.{Refusal}
+use Rattle.fields.specs.declared.fault.Layer.TheVariants.{Sheet}
 use Rattle.book.specs.CodeFaults as code
 use Rattle.sheet.specs.Faults as line
 use Rattle.sheet.specs.declared.sheet_fault.Cause.{Cause}

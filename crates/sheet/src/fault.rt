@@ -2,8 +2,8 @@
 ghost use Rattle.std.specs.Prelude.{◌≡◌};
 ghost use Rattle.sheet.specs.Faults.{told};
 
-use book::slip_fault::SlipFault;
-use field::fault::{Layer, Refusal};
+use book::SlipFault;
+use fields::{Layer, Refusal};
 
 /// Why a line is refused. A place counts the line's bytes, from 0.
 #[derive(Clone, Copy, PartialEq, Eq, Debug)]

@@ -7,8 +7,8 @@ use crate::fault::LineFault;
 use crate::groups::write_groups;
 use crate::reading_off::read_off;
 use crate::taking::{before_slash, line_case, take_known_line};
-use codes::finish::Finish;
-use slip::slip::Slip;
+use checksum::Finish;
+use slip::Slip;
 
 /// How many symbols stand for a boat and a time.
 const BOAT_AND_TIME: usize = 8;

@@ -4,8 +4,8 @@ ghost use Rattle.sheet.specs.SheetFaults.{told, told_cause};
 ghost use Rattle.sheet.specs.declared.sheet_fault.Cause.TheVariants.{Line as of_line, Code as of_code};
 
 use crate::fault::LineFault;
-use book::code_fault::CodeFault;
-use field::fault::{Layer, Refusal};
+use book::CodeFault;
+use fields::{Layer, Refusal};
 
 /// What refuses a line of a sheet: reading it, or the code that it is held to.
 #[derive(Clone, Copy, PartialEq, Eq, Debug)]

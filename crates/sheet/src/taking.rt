@@ -8,7 +8,7 @@ ghost use Rattle.book.specs.Story.{Leads};
 
 use crate::characters::{Case, Character, letter_case, read_character};
 use crate::fault::LineFault;
-use slip::slip::Slip;
+use slip::Slip;
 
 /// Takes a typed line onto a slip: wipes it, then writes each character of the line's groups, a question mark as a blank. The
 /// first bad byte refuses the line and leaves the slip empty.

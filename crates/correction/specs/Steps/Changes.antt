@@ -1,8 +1,8 @@
 -- The changes that an equation tells. Assumes nothing.
 use Rattle.std.specs.Prelude.{ℕ}
 use Rattle.std.specs.declared.cmp.PartialEq as equality
-use Rattle.field.specs.declared.field.ExtensionField as extension
-use Rattle.field.specs.declared.field.Field as field
+use Rattle.fields.specs.declared.field.ExtensionField as extension
+use Rattle.fields.specs.declared.field.Field as field
 use Rattle.correction.specs.Steps.Forney.{Valued}
 use Rattle.correction.specs.declared.forney.Forney.{Forney}
 

@@ -9,10 +9,10 @@ use Rattle.algebra.specs.Field.{FieldOn, Numbers, HasOrder, pow}
 use Rattle.algebra.specs.Poly.{coeff}
 use Rattle.algebra.specs.Rows.{positions}
 use Rattle.algebra.specs.Series.{deriv}
-use Rattle.polynomial.specs.Roots.{roots}
+use Rattle.lists.specs.Roots.{roots}
 use Rattle.correction.specs.Steps.Forney.{Valued}
 use Rattle.correction.specs.Steps.Listing.{OnRow, record_of}
-use Rattle.book.specs.declared.pattern.Pattern.{Pattern}
+use Rattle.correction.specs.declared.pattern.Pattern.{Pattern}
 
 module _ {E S : Type 0} (F : FieldOn E) (up : S → E) (N : Numbers S) (s : List E) (marks : List Bool) (a : E) (first : ℕ) where
   abbrev pub located : List E

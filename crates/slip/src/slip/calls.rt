@@ -3,7 +3,7 @@ ghost use Rattle.std.specs.Prelude.{◌≡◌};
 ghost use Rattle.book.specs.Book.{answer, after, write, blank, doubt, fresh};
 
 use super::Slip;
-use book::slip_fault::SlipFault;
+use book::SlipFault;
 
 impl Slip {
     /// A fresh slip, which holds nothing.

@@ -6,11 +6,10 @@ ghost use Rattle.slip.specs.Sealing.{check_symbols, elements, seal};
 ghost use Rattle.slip.specs.View.{Holdable};
 
 use super::Slip;
-use book::code_fault::CodeFault;
-use checksum::checksum::Checksum;
-use checksum::engine::Engine;
+use book::CodeFault;
 use checksum::symbols::{element, number};
-use field::field::Field;
+use checksum::{Checksum, Engine};
+use fields::Field;
 
 impl Slip {
     /// Seal: appends the k check symbols, undoubted, that make the row sound by the code.

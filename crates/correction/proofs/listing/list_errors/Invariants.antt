@@ -4,7 +4,7 @@ use Rattle.algebra.specs.Field.{HasOrder}
 use Rattle.correction.specs.Steps.Changes.{ChangeAt}
 use Rattle.correction.specs.Steps.Listing.{OnRow}
 use Rattle.correction.proofs.Onward.{Onward}
-use Rattle.polynomial.specs.Roots.{coming, roots}
+use Rattle.lists.specs.Roots.{coming, roots}
 use Rattle.correction.proofs.listing.list_errors.Given as goal
 
 abbrev pub invariant-loop-index : goal.invariant-loop-index

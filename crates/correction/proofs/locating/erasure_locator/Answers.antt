@@ -1,6 +1,6 @@
 use Rattle.std.proofs.Common.{◌+◌, ◌∙◌, arith, rules}
 use Rattle.std.proofs.lemmas.List.{length-take-le}
-use Rattle.decoding.proofs.Doubted.{doubted_none, doubted_past, doubted_more, doubted_room}
+use Rattle.correction.proofs.Doubted.{doubted_none, doubted_past, doubted_more, doubted_room}
 use Rattle.correction.proofs.locating.erasure_locator.Goals as goal
 use Rattle.correction.proofs.locating.erasure_locator.Goals.{then-marked, else-marked}
 

@@ -2,7 +2,7 @@ use Rattle.std.proofs.Common.{◌-◌, [], ◌∷◌, length, take, sym, ap, ◌
 use Rattle.std.proofs.lemmas.List.{take_at}
 use Rattle.std.proofs.lemmas.Option.{MatchOption-at_some}
 use Rattle.algebra.specs.Series.{lin}
-use Rattle.decoding.proofs.Linear.{turned_more, turned_all}
+use Rattle.correction.proofs.Linear.{turned_more, turned_all}
 use Rattle.correction.proofs.locating.times_linear.Goals as goal
 
 pub loop-entry-preserved : goal.loop-entry-preserved

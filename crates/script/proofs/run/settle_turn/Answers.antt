@@ -1,5 +1,5 @@
 use Rattle.std.proofs.Common.{refl}
-use Rattle.script.proofs.Lent.{settle_in_part}
+use Rattle.script.proofs.LentLists.{settle_in_part}
 use Rattle.script.proofs.run.settle_turn.Goals as goal
 
 pub returns : goal.returns

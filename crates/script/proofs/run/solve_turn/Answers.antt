@@ -1,5 +1,5 @@
 use Rattle.std.proofs.Common.{refl}
-use Rattle.script.proofs.Lent.{solve_in_part}
+use Rattle.script.proofs.LentLists.{solve_in_part}
 use Rattle.script.proofs.run.solve_turn.Goals as goal
 
 pub returns : goal.returns

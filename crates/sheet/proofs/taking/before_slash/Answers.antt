@@ -2,7 +2,7 @@ use Rattle.std.proofs.Common.{ℕ, eqb, length, take, unwrap_or, ap, ◌∙◌, 
 use Rattle.std.proofs.lemmas.Iterator.{YieldsList-from_slice}
 use Rattle.std.proofs.lemmas.Iterator.Search.{position_from_yields_List}
 use Rattle.sheet.proofs.taking.before_slash.Goals as goal
-use Rattle.typed.proofs.Fronts.{place_or_end}
+use Rattle.sheet.proofs.Fronts.{place_or_end}
 
 pub returns : goal.returns
 returns c =

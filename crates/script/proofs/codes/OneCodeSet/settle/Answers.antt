@@ -1,6 +1,6 @@
 use Rattle.std.proofs.Common.{◌≤◌, rules, subst, sym}
 use Rattle.algebra.specs.NumericCode.{NumericCode}
-use Rattle.script.proofs.Lent.{settle_on_desk}
+use Rattle.script.proofs.LentLists.{settle_on_desk}
 use Rattle.script.proofs.codes.OneCodeSet.settle.Goals as goal
 
 pub returns : goal.returns

@@ -1,0 +1,120 @@
+// Mending by a code: a search proposes records, and only what the checker accepts is listed.
+ghost use Rattle.std.specs.Prelude.{◌≡◌, ◌≤◌, ◌++◌, ◌==◌, not, count_by, length, drop};
+ghost use Rattle.std.specs.Result.{result_err};
+ghost use Rattle.book.specs.Calls.{Follows, solve, settle, unmendable};
+ghost use Rattle.book.specs.Mending.{nonzero};
+ghost use Rattle.correction.specs.Answers.{told_list, written, cleared};
+ghost use Rattle.correction.specs.MendingSteps.Found.{Found};
+ghost use Rattle.slip.specs.View.{Holdable};
+
+use crate::checker::fits;
+use crate::correction::bch_errors;
+use crate::pattern::Pattern;
+use crate::subtracting::mended;
+use book::{CodeFault, Record};
+use checksum::symbols::number;
+use checksum::{Checksum, bound};
+use fields::{ExtensionField, Field};
+use slip::Slip;
+
+/// Solve: lists the changes from the near row at the front of the caller's records, and answers how many they are and how
+/// many of them change something, two numbers that callers take apart at once. The slip stays as it is.
+pub fn solve<C: Checksum>(
+    slip: &Slip,
+    records: &mut [Record],
+    work: &mut [C::CorrectionField],
+) -> Result<(usize, usize), CodeFault>
+    ensures follows { Follows slip.now (solve C.rows (length records.old) (length work.old))
+        (told_list result records.new) slip.now }
+    ensures past { drop (written result) records.new ≡ drop (written result) records.old }
+    ensures working { work.new ≡ cleared C.CorrectionField.field result work.old }
+{
+    let found = find::<C>(slip, records.len(), work)?;
+    Ok(list::<C>(&found, records))
+}
+
+/// Settle: as solve, and the slip then holds the near row, nothing doubted.
+pub fn settle<C: Checksum>(
+    slip: &mut Slip,
+    records: &mut [Record],
+    work: &mut [C::CorrectionField],
+) -> Result<(usize, usize), CodeFault>
+    ensures follows { Follows slip.old (settle C.rows (length records.old) (length work.old))
+        (told_list result records.new) slip.new }
+    ensures past { drop (written result) records.new ≡ drop (written result) records.old }
+    ensures working { work.new ≡ cleared C.CorrectionField.field result work.old }
+{
+    C::laws();
+    let pattern = find::<C>(slip, records.len(), work)?;
+    *slip = mended::<C>(slip, pattern.records());
+    Ok(list::<C>(&pattern, records))
+}
+
+// The records that lead to the near row. Where a row is near, its changes are proposed: a proposal that does not fit says
+// that there is none.
+fn find<C: Checksum>(
+    slip: &Slip,
+    records: usize,
+    work: &mut [C::CorrectionField],
+) -> Result<Pattern, CodeFault>
+    ensures found { Found C.rows records (length work.old) slip.now result }
+    ensures working { work.new ≡ cleared C.CorrectionField.field result work.old }
+{
+    C::laws();
+    C::CorrectionField::lift_laws();
+    can_mend::<C>(slip, records, work.len())?;
+    bch_errors::<C>(slip, work)
+        .filter(|proposal| fits::<C>(slip, proposal.records()))
+        .ok_or(CodeFault::Unfit)
+}
+
+// Whether a slip may be mended, whatever its symbols are, with lists of some lengths being lent, and if not, why.
+fn can_mend<C: Checksum>(slip: &Slip, records: usize, work: usize) -> Result<(), CodeFault>
+    ensures fault { result_err result ≡ unmendable C.rows records work slip.now }
+    ensures holdable { Holdable slip.now }
+{
+    C::laws();
+    let bound = bound::<C>();
+    if slip.len() <= C::CHECKSUM_LENGTH {
+        return Err(CodeFault::Short);
+    }
+    if slip.len() > C::CODE_LENGTH {
+        return Err(CodeFault::Long);
+    }
+    if records < bound {
+        return Err(CodeFault::Records);
+    }
+    if work < 12 * (bound + 2) {
+        return Err(CodeFault::Working);
+    }
+    if slip.doubts() > bound {
+        return Err(CodeFault::Doubts);
+    }
+    Ok(())
+}
+
+// Writes a pattern's records at the front of others, and answers how many they are and how many change something.
+fn list<C: Checksum>(pattern: &Pattern, records: &mut [Record]) -> (usize, usize)
+    requires { length pattern.now ≤ length records.old }
+    ensures many { result.0 ≡ length pattern.now }
+    ensures changed { result.1 ≡ nonzero C.rows pattern.now }
+    ensures listed { records.new ≡ pattern.now ++ drop (length pattern.now) records.old }
+{
+    C::laws();
+    let found = pattern.records();
+    records[..found.len()].copy_from_slice(found);
+    (
+        found.len(),
+        count_changes(found, number::<C>(C::SymbolField::ZERO)),
+    )
+}
+
+// How many records change something.
+fn count_changes(records: &[Record], nothing: u8) -> usize
+    ensures { result ≡ count_by (λ c. not (c.change == nothing)) records.now }
+{
+    records
+        .iter()
+        .filter(|record| record.change != nothing)
+        .count()
+}

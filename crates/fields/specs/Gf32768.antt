@@ -1,0 +1,85 @@
+-- GF(32768) over the struct itself, as triples over GF(32) with ζ³ = 1 + ζ. Assumes nothing.
+--   gf32768           its operations with their laws
+--   fe32768_decides   a test of the three parts tells whether two elements are one
+--   gf32768_numbers   c0 + c1 ζ + c2 ζ² has the number c0 + 32 c1 + 1024 c2
+--   gf32768_generator a generator of the elements but ZERO
+--   lift32768         where an element of GF(32) stands in it
+use Rattle.std.specs.Prelude.{◌≡◌, ℕ, ◌+◌, ◌*◌, ◌/◌, ◌%◌, ◌==◌, ◌&&◌, refl, Decides}
+use Rattle.std.proofs.Common.{ap, ◌∙◌, arith, lit<, lit≤}
+use Rattle.std.proofs.lemmas.Bool.Decides.{Decides-and, Decides-like}
+use Rattle.algebra.specs.Field.{FieldOn, Numbers}
+use Rattle.algebra.specs.Triple.{Triple, each, plus, times, inverse}
+use Rattle.algebra.proofs.Cubic.{cubic}
+use Rattle.algebra.proofs.Carried.{carried}
+use Rattle.fields.specs.Gf32.{gf32, gf32_numbers, fe, fe_decides}
+use Rattle.fields.specs.declared.gf32.Fe32.{Fe32}
+use Rattle.fields.specs.Irreducible.{no_cube}
+use Rattle.fields.specs.declared.gf32768.Fe32768.{Fe32768}
+
+abbrev pub fe32768 : Fe32 → Fe32 → Fe32 → Fe32768
+fe32768 a b c = record { c0 = a; c1 = b; c2 = c }
+
+pub fe32768_path : (x y : Fe32768) → x.c0 ≡ y.c0 → x.c1 ≡ y.c1 → x.c2 ≡ y.c2 → x ≡ y
+fe32768_path x y p q r = λ i. record { c0 = p i; c1 = q i; c2 = r i }
+
+abbrev pub triple : Fe32768 → Triple Fe32
+triple x = record { c0 = x.c0; c1 = x.c1; c2 = x.c2 }
+
+pub fe32768_decides : (x y : Fe32768) → Decides (x.c0.value == y.c0.value && (x.c1.value == y.c1.value && x.c2.value == y.c2.value)) (x ≡ y)
+fe32768_decides x y =
+    let upper = Decides-and _ _ (fe_decides x.c1 y.c1) (fe_decides x.c2 y.c2) in
+    let parts = Decides-and _ _ (fe_decides x.c0 y.c0) upper in
+    Decides-like _ (λ p. fe32768_path x y p.0 p.1.0 p.1.1) (λ e. (ap (λ z. z.c0) e, (ap (λ z. z.c1) e, ap (λ z. z.c2) e))) parts
+
+abbrev of_triple : Triple Fe32 → Fe32768
+of_triple t = fe32768 t.c0 t.c1 t.c2
+
+unfoldable pub gf32768 : FieldOn Fe32768
+unfolding carried cubic
+gf32768 =
+    let laws = carried (cubic gf32 no_cube) triple of_triple (λ x. refl) (λ t. refl) in
+    record {
+      𝟘 = fe32768 gf32.𝟘 gf32.𝟘 gf32.𝟘;
+      𝟙 = fe32768 gf32.𝟙 gf32.𝟘 gf32.𝟘;
+      add = λ x y. of_triple (plus gf32.add gf32.mul (triple x) (triple y));
+      mul = λ x y. of_triple (times gf32.add gf32.mul (triple x) (triple y));
+      neg = λ x. of_triple (each gf32.neg (triple x));
+      inv = λ x. of_triple (inverse gf32 (triple x) (gf32.discrete x.c2 gf32.𝟘));
+      discrete = laws.discrete;
+      add_assoc = laws.add_assoc;
+      add_comm = laws.add_comm;
+      zero_add = laws.zero_add;
+      add_neg = laws.add_neg;
+      mul_assoc = laws.mul_assoc;
+      mul_comm = laws.mul_comm;
+      one_mul = laws.one_mul;
+      mul_add = laws.mul_add;
+      mul_inv = laws.mul_inv;
+      one_ne_zero = laws.one_ne_zero;
+    }
+
+unfoldable pub gf32768_numbers : Numbers Fe32768
+unfolding gf32_numbers
+gf32768_numbers =
+    let N = gf32_numbers in
+    let number : Fe32768 → ℕ = λ x. N.number x.c0 + 32 * N.number x.c1 + 1024 * N.number x.c2 in
+    record {
+      size = 32768;
+      number = number;
+      element = λ n. fe32768 (N.element (n % 32)) (N.element (n / 32 % 32)) (N.element (n / 1024));
+      small = lit≤ tt;
+      below = λ x. omega (arith, N.below x.c0, N.below x.c1, N.below x.c2);
+      element_number = λ x.
+          let low : number x % 32 ≡ N.number x.c0 = omega (arith, N.below x.c0) in
+          let upper : number x / 32 ≡ N.number x.c1 + 32 * N.number x.c2 = omega (arith, N.below x.c0) in
+          let middle : number x / 32 % 32 ≡ N.number x.c1 = ap (λ (n : ℕ). n % 32) upper ∙ omega (arith, N.below x.c1) in
+          let high : number x / 1024 ≡ N.number x.c2 = omega (arith, N.below x.c0, N.below x.c1) in
+          fe32768_path _ _ (ap N.element low ∙ N.element_number x.c0) (ap N.element middle ∙ N.element_number x.c1) (ap N.element high ∙ N.element_number x.c2);
+      number_element = λ n h. omega arith;
+    }
+
+abbrev pub gf32768_generator : Fe32768
+gf32768_generator = fe32768 (fe 29 (lit< tt)) (fe 24 (lit< tt)) (fe 0 (lit< tt))
+
+abbrev pub lift32768 : Fe32 → Fe32768
+lift32768 a = fe32768 a gf32.𝟘 gf32.𝟘

@@ -1,0 +1,94 @@
+// What a finite field is, and a field above another. Each field proves the laws of its own elements; all code above is
+// written, and proved, for any field that keeps them.
+ghost use denote.Param.{layout};
+ghost use Rattle.std.specs.Prelude.{◌≡◌, ℕ, ◌≤◌, ◌^◌, Bool, Decides};
+ghost use prog.Memory.{size};
+ghost use Rattle.algebra.specs.Field.{FieldOn, Numbers, Cyclic, divisors_to, Doubling, Lifts, Drops};
+ghost use Rattle.fields.specs.Elements.{inverse, numbered};
+
+use crate::fault::FieldFault;
+
+/// A finite field. Sum and product are methods with names. Clauses know a constant by the ghost member of its name; the
+/// divisors are a function, since a constant that is a slice would have to say where in memory it lies.
+pub trait Field: Copy + PartialEq {
+    // Sum, product, negative and inverse, with the laws of a field.
+    ghost field: { FieldOn Self };
+
+    // The whole number that each element stands for.
+    ghost numbers: { Numbers Self };
+
+    ghost ZERO: { Self };
+
+    ghost ONE: { Self };
+
+    ghost GENERATOR: { Self };
+
+    ghost MULTIPLICATIVE_ORDER: { ℕ };
+
+    const ZERO: Self;
+
+    const ONE: Self;
+
+    /// An element whose powers are all elements but ZERO.
+    const GENERATOR: Self;
+
+    /// How many elements there are but ZERO.
+    const MULTIPLICATIVE_ORDER: usize;
+
+    /// The divisors of the order, ascending.
+    fn order_factors<'a>() -> &'a [usize]
+        ensures { result.now ≡ divisors_to MULTIPLICATIVE_ORDER MULTIPLICATIVE_ORDER };
+
+    fn add(self, other: Self) -> Self
+        ensures { result ≡ field.add self other };
+
+    fn mul(self, other: Self) -> Self
+        ensures { result ≡ field.mul self other };
+
+    fn neg(self) -> Self
+        ensures { result ≡ field.neg self };
+
+    fn multiplicative_inverse(self) -> Result<Self, FieldFault>
+        ensures { result ≡ inverse field self };
+
+    /// The number that the element stands for. A method, as `from_number`, and no `From`: the laws below speak of both.
+    fn to_number(self) -> u16
+        ensures { result ≡ numbers.number self };
+
+    /// The element that stands for a number, none from the size on.
+    fn from_number(number: u16) -> Option<Self>
+        ensures { result ≡ numbered numbers number };
+
+    /// An element takes little memory, so that generic code can own an array of elements.
+    fn small()
+        ensures { size (layout Self.row) ≤ 2 ^ 50 };
+
+    ghost zero_is: { ZERO ≡ field.𝟘 };
+
+    ghost one_is: { ONE ≡ field.𝟙 };
+
+    ghost cyclic: { Cyclic field numbers GENERATOR MULTIPLICATIVE_ORDER };
+
+    // The characteristic is 2. Nothing but what is said of multiples rests on this law.
+    ghost doubling: { Doubling field };
+
+    ghost equality: { (x y : Self) (b : Bool) → (b ≡ Self.PartialEq.eq x y) → Decides b (x ≡ y) };
+}
+
+/// A field above another, its base: each element of the base has its place in it.
+pub trait ExtensionField: Field {
+    type BaseField: Field;
+
+    ghost lifted: { Self.BaseField → Self };
+
+    fn lift(base: Self::BaseField) -> Self
+        ensures { result ≡ lifted base };
+
+    /// The element of the base that was lifted to this one; none if none was.
+    fn drop_to_base(self) -> Option<Self::BaseField>
+        ensures { Drops lifted self result };
+
+    /// Lifting keeps sums and products, and no two elements lift to one.
+    fn lift_laws()
+        ensures { Lifts Self.BaseField.field Self.field lifted };
+}

@@ -1,0 +1,93 @@
+// A typed line, and its output line.
+ghost use Rattle.std.specs.Prelude.{◌≡◌};
+ghost use Rattle.book.specs.Calls.{Follows, settle};
+ghost use Rattle.sheet.specs.Shown.{OneWay, OnlySays, Shown, finish_rows, shown};
+ghost use Rattle.script.specs.Script.{heard};
+
+use crate::output_line::{Told, write_output_line};
+use crate::reading::Reading;
+use crate::reading_off::{read_off, whole_seconds};
+use crate::taking::take_line;
+use checksum::Finish;
+use fields::Refusal;
+use script::run::run;
+use script::{Answer, Ask, CodeSet, Lent, One, Reply, Turn};
+use slip::Slip;
+use std::marker::PhantomData;
+use std::slice;
+
+// What a settle is lent. No code asks for more.
+const LENT: Lent = Lent {
+    records: 16,
+    working: 216,
+};
+
+/// The output line of a typed line: the line's number, the number of its refusal or 0, how many symbols were changed, the
+/// sail number, and the seconds since midnight. Of a refused line the last three are 0.
+pub fn finish_line(number: usize, line: &[u8]) -> [u8; 31]
+    ensures { Shown finish_rows number line.now result }
+{
+    let told = told_of(number, finish(line));
+    let mut text = [0; 31];
+    write_output_line(&told, &mut text);
+    text
+}
+
+// What is told of a line by what it says.
+fn told_of(number: usize, outcome: Result<Reading, Refusal>) -> Told
+    ensures { result ≡ shown number outcome }
+{
+    match outcome {
+        Ok(reading) => Told {
+            line: number,
+            refusal: 0,
+            changes: reading.changes,
+            sail: reading.sail,
+            seconds: whole_seconds(reading.tenths),
+        },
+        Err(why) => Told {
+            line: number,
+            refusal: why.number,
+            changes: 0,
+            sail: 0,
+            seconds: 0,
+        },
+    }
+}
+
+// Takes a line onto a slip, settles the slip, and reads it off.
+fn finish(line: &[u8]) -> Result<Reading, Refusal>
+    ensures { OnlySays finish_rows line.now result }
+{
+    let mut slip = Slip::new();
+    take_line(&mut slip, line)?;
+    let Answer::Listed(listing) = settle(&mut slip)? else {
+        unreachable()
+    };
+    let (sail, tenths) = read_off(slip.symbols())?;
+    Ok(Reading {
+        changes: listing.nonzero(),
+        sail,
+        tenths,
+    })
+}
+
+// Settles a slip by the finish code: a script of one turn, on the only slip.
+fn settle(slip: &mut Slip) -> Reply
+    ensures follows { Follows slip.old (settle finish_rows 16 216) (heard result) slip.new }
+    ensures decided { OneWay finish_rows }
+{
+    let code = One::<Finish> { code: PhantomData };
+    let turns = [Turn {
+        slip: 0,
+        ask: Ask::Settle(code, LENT),
+    }];
+    let mut replies = [Ok(Answer::Done)];
+    run(
+        slice::from_mut(slip),
+        &turns,
+        &mut replies,
+        &mut One::<Finish>::desk(),
+    );
+    replies[0]
+}

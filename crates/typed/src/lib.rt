@@ -1,4 +1,0 @@
-// What is typed: a line, cut into its pieces.
-#![tactic(auto)]
-
-pub mod pieces;
