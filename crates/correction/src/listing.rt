@@ -12,7 +12,7 @@ use crate::pattern::Pattern;
 use book::Record;
 use fields::powers::multiplicative_order;
 use fields::{ExtensionField, Field};
-use lists::polynomial::find_nonzero_distinct_roots;
+use lists::find_nonzero_distinct_roots;
 
 // The record of a place more, none where its change cannot be had or where there is no room for it.
 fn list_place<E: ExtensionField>(

@@ -11,4 +11,4 @@ pub mod roots;
 
 pub use fault::{ListFault, admit};
 pub use lfsr::berlekamp_massey;
-pub use roots::Roots;
+pub use roots::{Roots, find_nonzero_distinct_roots};

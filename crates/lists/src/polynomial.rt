@@ -3,17 +3,13 @@ ghost use Rattle.std.specs.Prelude.{◌≡◌, map, length};
 ghost use Rattle.algebra.specs.Poly.{eval};
 ghost use Rattle.lists.specs.Faults.{asked, count, written};
 ghost use Rattle.lists.specs.Lists as spec;
-ghost use Rattle.lists.specs.Roots.{coming, Seeks, Passes, Stepped};
-ghost use Rattle.std.specs.List.{slice_get as item};
 
 use crate::fault::{ListFault, admit};
-use crate::roots::Roots;
 use fields::arithmetic::multiple;
-use fields::powers::multiplicative_order;
 use fields::{ExtensionField, Field};
 
 // Refuses a list with no entry.
-fn not_empty<T>(list: &[T]) -> Result<(), ListFault>
+pub(crate) fn not_empty<T>(list: &[T]) -> Result<(), ListFault>
     ensures { result ≡ asked (length list.now) tt }
 {
     if list.is_empty() {
@@ -91,43 +87,4 @@ pub fn formal_derivative<F: Field>(list: &[F], out: &mut [F]) -> Result<usize, L
         *entry = multiple(list[i + 1], i + 1);
     }
     Ok(n)
-}
-
-/// A cursor over the indices below the base's multiplicative order at whose power of the base a list is ZERO.
-pub fn find_nonzero_distinct_roots<F: Field>(base: F) -> Result<Roots<F>, ListFault>
-    ensures { Seeks F.field base result }
-{
-    let order = multiplicative_order(base)?;
-    Ok(Roots {
-        base,
-        order,
-        left: order,
-        power: F::ONE,
-    })
-}
-
-impl<F: Field> Roots<F> {
-    // The next index, with the base's power at it, which the cursor then has passed.
-    fn step(&mut self) -> Option<(usize, F)>
-        ensures { Passes F.field self.old result self.new }
-    {
-        let (index, power) = (self.order.saturating_sub(self.left), self.power);
-        self.left = self.left.checked_sub(1)?;
-        self.power = self.base.mul(power);
-        Some((index, power))
-    }
-
-    /// The next index, none past the last.
-    pub fn next(&mut self, list: &[F]) -> Result<Option<usize>, ListFault>
-        ensures answer { result ≡ asked (length list.now) (item (coming F.field list.now self.old) 0) }
-        ensures rest { Stepped F.field list.now self.old self.new }
-    {
-        not_empty(list)?;
-        while let Some((index, power)) = self.step() {
-            if value_at(list, power) == F::ZERO {
-                return Ok(Some(index));
-            }
-        }
-        Ok(None)
-    }
 }

@@ -1,4 +1,13 @@
 // Where a search for roots stands.
+ghost use Rattle.std.specs.Prelude.{◌≡◌, length};
+ghost use Rattle.lists.specs.Faults.{asked};
+ghost use Rattle.lists.specs.Roots.{coming, Seeks, Passes, Stepped};
+ghost use Rattle.std.specs.List.{slice_get as item};
+
+use crate::fault::ListFault;
+use crate::polynomial::{not_empty, value_at};
+use fields::Field;
+use fields::powers::multiplicative_order;
 
 /// A cursor over the indices at whose power of a base a list is ZERO. The list is lent at each step, so that the cursor
 /// is no Iterator.
@@ -10,4 +19,43 @@ pub struct Roots<F> {
     pub(crate) left: usize,
     /// The base to the power of the next of them.
     pub(crate) power: F,
+}
+
+/// A cursor over the indices below the base's multiplicative order at whose power of the base a list is ZERO.
+pub fn find_nonzero_distinct_roots<F: Field>(base: F) -> Result<Roots<F>, ListFault>
+    ensures { Seeks F.field base result }
+{
+    let order = multiplicative_order(base)?;
+    Ok(Roots {
+        base,
+        order,
+        left: order,
+        power: F::ONE,
+    })
+}
+
+impl<F: Field> Roots<F> {
+    // The next index, with the base's power at it, which the cursor then has passed.
+    fn step(&mut self) -> Option<(usize, F)>
+        ensures { Passes F.field self.old result self.new }
+    {
+        let (index, power) = (self.order.saturating_sub(self.left), self.power);
+        self.left = self.left.checked_sub(1)?;
+        self.power = self.base.mul(power);
+        Some((index, power))
+    }
+
+    /// The next index, none past the last.
+    pub fn next(&mut self, list: &[F]) -> Result<Option<usize>, ListFault>
+        ensures answer { result ≡ asked (length list.now) (item (coming F.field list.now self.old) 0) }
+        ensures rest { Stepped F.field list.now self.old self.new }
+    {
+        not_empty(list)?;
+        while let Some((index, power)) = self.step() {
+            if value_at(list, power) == F::ZERO {
+                return Ok(Some(index));
+            }
+        }
+        Ok(None)
+    }
 }

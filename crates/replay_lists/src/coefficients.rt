@@ -2,7 +2,8 @@
 use crate::outcomes::write_front;
 use anyhow::{Context, anyhow};
 use fields::Field;
-use lists::polynomial::{degree, evaluate, find_nonzero_distinct_roots, formal_derivative};
+use lists::find_nonzero_distinct_roots;
+use lists::polynomial::{degree, evaluate, formal_derivative};
 use lists::products::{convolution, mul_mod_x_d};
 use replay::commas::WithCommas;
 use replay::elements::{ByNumber, read_element, read_elements};

@@ -8,13 +8,26 @@ ghost use Rattle.book.specs.Codes.{Lawful};
 ghost use Rattle.correction.specs.Answers.{told_list};
 ghost use Rattle.either.specs.Either.{either};
 
-use crate::members::{Desk, One};
 use book::{CodeFault, Record};
 use checksum::Checksum;
 use correction::{settle, solve};
 use either::{Either, Left, Right};
 use fields::{ExtensionField, Field};
 use slip::Slip;
+use std::marker::PhantomData;
+
+/// A set of one code, C: its only value names it.
+#[derive_where(Clone, Copy)]
+pub struct One<C> {
+    pub code: PhantomData<C>,
+}
+
+/// The working list of one code, over the field in which it corrects: 216 elements are as many as any bound asks. A number and
+/// no constant, here and wherever memory is fixed, since clauses and invariants speak of it too.
+#[derive(Drop)]
+pub struct Desk<E> {
+    pub work: [E; 216],
+}
 
 /// A set of codes. A value of it names one of them; its desk owns the working lists of all of them, each over the field
 /// in which its code corrects, so that a caller need not know those fields. The slip, the records and the desk of a call are lent by

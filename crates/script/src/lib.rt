@@ -3,11 +3,9 @@
 
 pub mod codes;
 pub mod listing;
-pub mod members;
 pub mod run;
 pub mod script;
 
-pub use codes::CodeSet;
+pub use codes::{CodeSet, Desk, One};
 pub use listing::Listing;
-pub use members::{Desk, One};
 pub use script::{Answer, Ask, Lent, Reply, Turn};

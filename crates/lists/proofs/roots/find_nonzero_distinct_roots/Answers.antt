@@ -1,6 +1,6 @@
 use Rattle.std.proofs.Common.{◌∙◌}
 use Rattle.lists.proofs.Searches.{all_left}
-use Rattle.lists.proofs.polynomial.find_nonzero_distinct_roots.Goals as goal
+use Rattle.lists.proofs.roots.find_nonzero_distinct_roots.Goals as goal
 
 pub returns : goal.returns
 returns g c =
