@@ -1,4 +1,4 @@
-// Polynomials as coefficient lists: degree, value, derivative, and a cursor over roots.
+// Polynomials as coefficient lists: degree, value and derivative.
 ghost use Rattle.std.specs.Prelude.{◌≡◌, map, length};
 ghost use Rattle.algebra.specs.Poly.{eval};
 ghost use Rattle.lists.specs.Faults.{asked, count, written};

@@ -1,4 +1,4 @@
-// Where a search for roots stands.
+// A cursor over the roots of a list, among the powers of a base.
 ghost use Rattle.std.specs.Prelude.{◌≡◌, length};
 ghost use Rattle.lists.specs.Faults.{asked};
 ghost use Rattle.lists.specs.Roots.{coming, Seeks, Passes, Stepped};

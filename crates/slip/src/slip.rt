@@ -198,7 +198,7 @@ impl Slip {
 impl Slip {
     // A place more, where there is room for it.
     #[tactic(auto, using(crate::proofs::Memory::steps))]
-    pub(crate) fn push(&mut self, symbol: u8, doubted: bool)
+    fn push(&mut self, symbol: u8, doubted: bool)
         requires small { symbol < 32 }
         requires room { length self.old < 89 }
         ensures { self.new ≡ self.old ++ at symbol doubted ∷ [] }
