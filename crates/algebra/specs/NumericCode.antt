@@ -1,12 +1,12 @@
 -- A code as its rows know it, in numbers alone, so that a call can carry it.
 --   NumericCode  a code's numbers, the difference of two symbols, and which rows are sound
---   rows_of      a code over a field, by the numbers of its symbols
+--   numeric_code   a code over a field, by the numbers of its symbols
 use Rattle.std.specs.List.{list_all}
 use Rattle.std.specs.Prelude.{◌≡◌, ℕ, Bool, true, false, not, ◌&&◌, List, [], ◌∷◌, map, nat_lt}
 use Rattle.algebra.specs.Code as code
 use Rattle.algebra.specs.Code.{Code, residue}
-use Rattle.algebra.specs.Field.{FieldOn, Numbers}
-use Rattle.algebra.specs.Rows.{other}
+use Rattle.algebra.specs.Field.{FieldOn, Enumeration}
+use Rattle.algebra.specs.Rows.{is_other}
 
 pub record NumericCode : Type 0 where
   -- how many symbols there are
@@ -24,20 +24,20 @@ pub record NumericCode : Type 0 where
   pub is_sound : List ℕ → Bool
 
 -- are two lists one?
-abbrev pub alike : {S : Type 0} → ((x y : S) → Dec (x ≡ y)) → List S → List S → Bool
-alike discrete [] [] = true
-alike discrete [] (y ∷ ys) = false
-alike discrete (x ∷ xs) [] = false
-alike discrete (x ∷ xs) (y ∷ ys) = not (other discrete x y) && alike discrete xs ys
+abbrev pub is_same_list : {S : Type 0} → ((x y : S) → Dec (x ≡ y)) → List S → List S → Bool
+is_same_list dec_eq [] [] = true
+is_same_list dec_eq [] (y ∷ ys) = false
+is_same_list dec_eq (x ∷ xs) [] = false
+is_same_list dec_eq (x ∷ xs) (y ∷ ys) = not (is_other dec_eq x y) && is_same_list dec_eq xs ys
 
 -- a row is sound if its numbers are symbols and their residue is the target
-abbrev pub rows_of : {S E : Type 0} → Numbers S → FieldOn S → Code S E → NumericCode
-rows_of N F C = record {
+abbrev pub numeric_code : {S E : Type 0} → Enumeration S → FieldOn S → Code S E → NumericCode
+numeric_code N F C = record {
   size = N.size;
   checks = code.checks C;
   limit = C.limit;
   bound = code.bound C;
   zero = N.number F.𝟘;
   sub = λ x y. N.number (F.add (N.element x) (F.neg (N.element y)));
-  is_sound = λ n. list_all (λ v. nat_lt v N.size) n && alike F.discrete (residue F C (map N.element n)) C.target;
+  is_sound = λ n. list_all (λ v. nat_lt v N.size) n && is_same_list F.dec_eq (residue F C (map N.element n)) C.target;
 }

@@ -1,4 +1,4 @@
--- What each refusal of a code tells: its number, its layer and its place. Assumes nothing.
+-- What each refusal of a code tells: its number, its layer and its place.
 use Rattle.std.specs.Prelude.{ℕ}
 use Rattle.fields.specs.declared.fault.Refusal.{Refusal}
 use Rattle.fields.specs.declared.fault.Layer.TheVariants.{Code}
@@ -13,5 +13,5 @@ number_of Working = 7
 number_of Doubts = 8
 number_of Unfit = 9
 
-abbrev pub told : CodeFault → Refusal
-told fault = record { number = number_of fault; layer = Code; place = 0 }
+abbrev pub code_refusal : CodeFault → Refusal
+code_refusal fault = record { number = number_of fault; layer = Code; place = 0 }

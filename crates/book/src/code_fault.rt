@@ -1,6 +1,6 @@
 // Why a code refuses a slip.
 ghost use Rattle.std.specs.Prelude.{◌≡◌};
-ghost use Rattle.book.specs.CodeFaults.{told};
+ghost use Rattle.book.specs.CodeFaults.{code_refusal};
 
 use fields::{Layer, Refusal};
 
@@ -23,7 +23,7 @@ pub enum CodeFault {
 
 /// What the code's refusal tells.
 impl From<CodeFault> for Refusal {
-    ghost from_gives = { λ fault r. r ≡ told fault };
+    ghost from_gives = { λ fault r. r ≡ code_refusal fault };
 
     fn from(fault: CodeFault) -> Refusal {
         let number = match fault {

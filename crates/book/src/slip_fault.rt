@@ -1,6 +1,6 @@
 // Why a slip refuses.
 ghost use Rattle.std.specs.Prelude.{◌≡◌};
-ghost use Rattle.book.specs.SlipFaults.{told};
+ghost use Rattle.book.specs.SlipFaults.{slip_refusal};
 
 use fields::{Layer, Refusal};
 
@@ -17,7 +17,7 @@ pub enum SlipFault {
 
 /// What the slip's refusal tells.
 impl From<SlipFault> for Refusal {
-    ghost from_gives = { λ fault r. r ≡ told fault };
+    ghost from_gives = { λ fault r. r ≡ slip_refusal fault };
 
     fn from(fault: SlipFault) -> Refusal {
         match fault {

@@ -1,4 +1,4 @@
--- A list whose entries are replaced one by one, from the front: the first i are new. Assumes nothing.
+-- A list whose entries are replaced one by one, from the front: the first i are new.
 use Rattle.std.proofs.Common.{◌≡◌, ℕ, ◌+◌, ◌<◌, ◌≤◌, List, [], ◌∷◌, ◌++◌, length, get_or, take, drop, set, sym, ap, ◌∙◌, ap₂, append-nil, append_assoc, arith}
 use Rattle.std.proofs.lemmas.List.{drop_more, take_more, length-take-le, set_at, get_or_at, take_all, drop_all, get_or_default}
 use Rattle.algebra.specs.Field.{FieldOn}

@@ -1,4 +1,4 @@
--- An engine takes little memory. Assumes nothing.
+-- An engine takes little memory.
 use Rattle.std.proofs.Common.{ℕ, ◌+◌, ◌-◌, ◌*◌, ◌%◌, ◌^◌, ◌<◌, ◌≤◌, max, sym, subst, mod-lt, arith, w8, w16, w32, w64}
 use mir.Syntax.{Ty, Width, w128}
 use mir.Val.{bytes}

@@ -2,7 +2,7 @@
 // of 3, rows of up to 89 symbols.
 ghost use Rattle.std.specs.Prelude.{◌≡◌, refl};
 ghost use Rattle.algebra.specs.Code.{checks};
-ghost use Rattle.checksum.specs.Bech32.{sheet, sheet_rows};
+ghost use Rattle.checksum.specs.Bech32.{bech32, sheet_rows};
 
 use crate::checksum::Checksum;
 use fields::{Fe32, Fe1024};
@@ -10,21 +10,21 @@ use fields::{Fe32, Fe1024};
 /// The name of the sheet code. It has no value: a code is an argument of type.
 pub enum Bech32 {}
 
-#[tactic(auto, unfolding(crate::specs::Bech32::sheet, fields::specs::Gf32::gf32))]
+#[tactic(auto, unfolding(crate::specs::Bech32::bech32, fields::specs::Gf32::gf32))]
 impl Checksum for Bech32 {
     type SymbolField = Fe32;
 
     type CorrectionField = Fe1024;
 
-    ghost code = { sheet };
+    ghost code = { bech32 };
 
-    ghost CHECKSUM_LENGTH = { checks sheet };
+    ghost CHECKSUM_LENGTH = { checks bech32 };
 
-    ghost CODE_LENGTH = { sheet.limit };
+    ghost CODE_LENGTH = { bech32.limit };
 
-    ghost ROOT_GENERATOR = { sheet.root };
+    ghost ROOT_GENERATOR = { bech32.root };
 
-    ghost ROOT_EXPONENTS = { (sheet.first, sheet.last) };
+    ghost ROOT_EXPONENTS = { (bech32.first, bech32.last) };
 
     const CHECKSUM_LENGTH: usize = 6;
 

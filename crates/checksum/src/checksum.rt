@@ -1,8 +1,8 @@
 // What a code is. Any type that keeps the laws below is a code: sealing, checking and all that is built on them are
 // written, and proved, for every one.
 ghost use Rattle.std.specs.Prelude.{◌≡◌, ℕ};
-ghost use Rattle.algebra.specs.Code.{Code, Lawful, bound, checks, generator};
-ghost use Rattle.algebra.specs.NumericCode.{NumericCode, rows_of};
+ghost use Rattle.algebra.specs.Code.{Code, IsLawfulCode, bound, checks, generator_poly};
+ghost use Rattle.algebra.specs.NumericCode.{NumericCode, numeric_code};
 ghost use Rattle.algebra.specs.Poly.{coeff};
 
 use fields::{ExtensionField, Field};
@@ -43,7 +43,7 @@ pub trait Checksum {
 
     /// The coefficient of a power of x in the generator polynomial: ONE at k, ZERO above it.
     fn generator(power: usize) -> Self::SymbolField
-        ensures { result ≡ coeff Self.SymbolField.field (generator Self.SymbolField.field code) power };
+        ensures { result ≡ coeff Self.SymbolField.field (generator_poly Self.SymbolField.field code) power };
 
     /// The coefficient of a power of x in the residue of a sound row: ZERO from k on.
     fn target_residue(power: usize) -> Self::SymbolField
@@ -52,7 +52,7 @@ pub trait Checksum {
     /// What makes the code lawful. Generic code calls this to have the laws at hand.
     fn laws()
         ensures alphabet { Self.SymbolField.numbers.size ≡ 32 }
-        ensures lawful { Lawful Self.SymbolField.field Self.CorrectionField.field Self.CorrectionField.lifted code };
+        ensures lawful { IsLawfulCode Self.SymbolField.field Self.CorrectionField.field Self.CorrectionField.lifted code };
 
     ghost checksum_length_is: { CHECKSUM_LENGTH ≡ checks code };
 
@@ -63,7 +63,7 @@ pub trait Checksum {
     ghost root_exponents_are: { ROOT_EXPONENTS ≡ (code.first, code.last) };
 
     // The rows are those of the code.
-    ghost rows_are: { rows ≡ rows_of Self.SymbolField.numbers Self.SymbolField.field code };
+    ghost rows_are: { rows ≡ numeric_code Self.SymbolField.numbers Self.SymbolField.field code };
 }
 
 /// The bound: as many consecutive roots as there are. A row can be mended where twice its errors and its doubted places

@@ -1,8 +1,8 @@
 // The engine that works out a row's residue symbol by symbol, and with it the checking and the sealing of rows.
 ghost use Rattle.std.specs.Prelude.{List, ◌≡◌, ◌∷◌, reverse, length, take, replicate, Decides};
-ghost use Rattle.algebra.specs.Code.{checks, modulo, one, residue, residue_from, closing, seal, Sound, Seals};
+ghost use Rattle.algebra.specs.Code.{checks, modulo, poly_one, residue, residue_from, completion, seal, IsSoundRow, IsOnlySeal};
 ghost use Rattle.algebra.specs.Poly.{poly_sub};
-ghost use Rattle.algebra.specs.Remainder.{Remainder};
+ghost use Rattle.algebra.specs.Remainder.{IsRemainder};
 
 use crate::checksum::Checksum;
 use fields::Field;
@@ -29,7 +29,7 @@ impl<C: Checksum> Model for Engine<C> {
 impl<C: Checksum> Engine<C> {
     /// The engine before the first symbol: the polynomial 1.
     pub fn new() -> Self
-        ensures { result ≡ one C.SymbolField.field (checks C.code) }
+        ensures { result ≡ poly_one C.SymbolField.field (checks C.code) }
     {
         C::laws();
         let mut entries = [C::SymbolField::ZERO; 16];
@@ -65,7 +65,7 @@ impl<C: Checksum> Engine<C> {
     #[tactic(auto, using(algebra::proofs::Remainder::residue_remainder))]
     pub fn of_row(row: &[C::SymbolField]) -> Self
         ensures residue { result ≡ residue C.SymbolField.field C.code row.now }
-        ensures remainder { Remainder C.SymbolField.field C.code.lower (reverse (C.SymbolField.field.𝟙 ∷ row.now)) result }
+        ensures remainder { IsRemainder C.SymbolField.field C.code.lower (reverse (C.SymbolField.field.𝟙 ∷ row.now)) result }
     {
         C::laws();
         let mut engine = Self::new();
@@ -114,8 +114,8 @@ impl<C: Checksum> Engine<C> {
     }
 
     /// The k symbols that take the residue to the target, in the order of writing.
-    pub fn closing(mut self) -> CheckSymbols<C>
-        ensures { result ≡ closing C.SymbolField.field C.code self }
+    pub fn completion(mut self) -> CheckSymbols<C>
+        ensures { result ≡ completion C.SymbolField.field C.code self }
     {
         self.input_zeros();
         self.missing()
@@ -151,7 +151,7 @@ impl<C: Checksum> CheckSymbols<C> {
 /// Whether a row is sound.
 #[tactic(auto, using(crate::proofs::Sizes::engine_fits))]
 pub fn is_sound<C: Checksum>(row: &[C::SymbolField]) -> bool
-    ensures { Decides result (Sound C.SymbolField.field C.code row.now) }
+    ensures { Decides result (IsSoundRow C.SymbolField.field C.code row.now) }
 {
     C::SymbolField::small();
     Engine::<C>::of_row(row).meets_target()
@@ -160,9 +160,9 @@ pub fn is_sound<C: Checksum>(row: &[C::SymbolField]) -> bool
 /// Seal: the k check symbols that make the row sound. No other k symbols do.
 pub fn seal<C: Checksum>(row: &[C::SymbolField]) -> CheckSymbols<C>
     ensures checks { result ≡ seal C.SymbolField.field C.code row.now }
-    ensures seals { Seals C.SymbolField.field C.code row.now result }
+    ensures seals { IsOnlySeal C.SymbolField.field C.code row.now result }
 {
     C::laws();
     C::SymbolField::small();
-    Engine::<C>::of_row(row).closing()
+    Engine::<C>::of_row(row).completion()
 }

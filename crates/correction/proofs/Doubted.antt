@@ -1,13 +1,13 @@
--- The locator of the places that are doubted, one flag after another from the last. Assumes nothing.
+-- The locator of the places that are doubted, one flag after another from the last.
 use Rattle.std.proofs.Common.{◌≡◌, ℕ, ◌+◌, ◌-◌, ◌<◌, Bool, true, false, List, [], ◌∷◌, ◌++◌, length, take, drop, set, sym, ap, ◌∙◌, ap₂, append_assoc, append-nil, arith}
 use Rattle.std.proofs.lemmas.List.{take_at, drop_at, drop-drop, take-take, length-append, length-drop, length-take-le}
 use Rattle.algebra.specs.Field.{FieldOn, pow}
-use Rattle.algebra.specs.Series.{lin, locator}
-use Rattle.algebra.specs.Rows.{count, positions}
+use Rattle.algebra.specs.Series.{times_linear, locator}
+use Rattle.algebra.specs.Rows.{count_true, positions}
 use Rattle.algebra.proofs.Flags.{length_positions}
 use Rattle.algebra.proofs.Locator.{length_locator}
 
-count_append : (fs gs : List Bool) → count (fs ++ gs) ≡ count fs + count gs
+count_append : (fs gs : List Bool) → count_true (fs ++ gs) ≡ count_true fs + count_true gs
 count_append [] gs = omega arith
 count_append (true ∷ fs) gs = omega (arith, count_append fs gs)
 count_append (false ∷ fs) gs = count_append fs gs
@@ -22,11 +22,11 @@ module _ {A : Type 0} (F : FieldOn A) (a : A) (fs : List Bool) where
     pub done : List Bool
     pub parts : rest ++ done ≡ fs
     pub is : w ≡ located done ++ drop len e
-    pub size : len ≡ count done + 1
+    pub size : len ≡ count_true done + 1
     pub power : x ≡ pow F a (length done)
-    pub room : count fs < length e
+    pub room : count_true fs < length e
 
-  pub doubted_none : {rest : List Bool} (e : List A) {u x : A} → rest ≡ fs → count fs < length e → u ≡ F.𝟙 → x ≡ F.𝟙 → Doubted rest 1 x (set e 0 u) (set e 0 u)
+  pub doubted_none : {rest : List Bool} (e : List A) {u x : A} → rest ≡ fs → count_true fs < length e → u ≡ F.𝟙 → x ≡ F.𝟙 → Doubted rest 1 x (set e 0 u) (set e 0 u)
   doubted_none [] all h eu ex = absurd (omega arith)
   doubted_none {rest} (y ∷ e) all h eu ex = record {
     done = [];
@@ -62,13 +62,13 @@ module _ {A : Type 0} {F : FieldOn A} {a : A} {fs rest : List Bool} {len : ℕ} 
   -- one that is finds room
   pub doubted_room : (left : List Bool) (flag : Bool) → rest ≡ left ++ (flag ∷ []) → flag ≡ true → len < length w
   doubted_room left flag last is =
-      let many = ap count (parts_more left flag true last is) in
+      let many = ap count_true (parts_more left flag true last is) in
       let split = ap length h.is ∙ length-append (located F a fs h.done) (drop len e) in
       omega (arith, h.size, h.room, count_append left (true ∷ h.done), located_size, length-drop len e)
 
   -- and the front, with an entry more, is multiplied
   pub doubted_more : {left : List Bool} {flag : Bool} {y : A} {new : List A} → rest ≡ left ++ (flag ∷ []) → flag ≡ true → y ≡ F.mul a x
-      → new ≡ lin F x (take (length (take (len + 1) w) - 1) (take (len + 1) w)) → Doubted F a fs left (len + 1) y e (new ++ drop (len + 1) w)
+      → new ≡ times_linear F x (take (length (take (len + 1) w) - 1) (take (len + 1) w)) → Doubted F a fs left (len + 1) y e (new ++ drop (len + 1) w)
   doubted_more {left} {flag} {new = new} last is ey out =
       let room = doubted_room left flag last is in
       let below_top : length (take (len + 1) w) - 1 ≡ len = omega (arith, length-take-le (len + 1) w (omega arith)) in
@@ -79,7 +79,7 @@ module _ {A : Type 0} {F : FieldOn A} {a : A} {fs rest : List Bool} {len : ℕ} 
       record {
         done = true ∷ h.done;
         parts = parts_more left flag true last is;
-        is = ap₂ ◌++◌ (out ∙ ap₂ (lin F) h.power own) past;
+        is = ap₂ ◌++◌ (out ∙ ap₂ (times_linear F) h.power own) past;
         size = omega (arith, h.size);
         power = ey ∙ ap (F.mul a) h.power;
         room = h.room;

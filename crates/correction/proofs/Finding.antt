@@ -1,26 +1,26 @@
--- From a proposal and what the checker says of it to the answers of solve and settle. Assumes nothing.
+-- From a proposal and what the checker says of it to the answers of solve and settle.
 use Rattle.std.specs.List.{AllByRecursion}
 use Rattle.std.proofs.Common.{◌≡◌, ℕ, ◌+◌, ◌*◌, ◌<◌, ◌≤◌, Bool, true, false, cond, eqb, ltb, leb, Decides, List, [], ◌∷◌, ◌++◌, count_by, map, length, not, take, drop, Some, None, Ok, Option, sym, refl, ap, ◌∙◌, subst, arith}
 use Rattle.std.proofs.lemmas.List.{take_at}
 use Rattle.std.proofs.lemmas.Bool.Decides.{nat_tests, not_from_Decides}
 use Rattle.std.specs.Option.{MatchOption, ok_or}
 use Rattle.std.specs.Bool.{then_some}
-use Rattle.algebra.specs.Field.{FieldOn, Numbers}
-use Rattle.book.specs.Book.{Book, row, sure}
-use Rattle.book.specs.Calls.{Follows, Mends, listed, lists, none_near, one_near, refused, settle, settles, solve, solves, unmendable}
-use Rattle.book.specs.CodeFaults.{told}
+use Rattle.algebra.specs.Field.{FieldOn, Enumeration}
+use Rattle.book.specs.Book.{Book, row, undoubted_place}
+use Rattle.book.specs.Calls.{Follows, SearchGives, listed, listing_of, none_near, one_near, refused, settle, settles, solve, solves, search_fault}
+use Rattle.book.specs.CodeFaults.{code_refusal}
 use Rattle.algebra.specs.NumericCode.{NumericCode}
-use Rattle.book.specs.Codes.{Lawful, Near}
-use Rattle.book.specs.Mending.{Fits, changes, nonzero, subtracted}
+use Rattle.book.specs.Codes.{IsLawful, IsNear}
+use Rattle.book.specs.Mending.{Fits, changes, nonzero_count, row_less}
 use Rattle.book.specs.declared.code_fault.CodeFault.TheVariants.{Unfit}
 use Rattle.book.specs.declared.record.Record.{Record}
 use Rattle.book.proofs.Fitting.{changes_fit, few_changes, fits_near}
 use Rattle.correction.specs.Proposals.{Proposes}
 use Rattle.correction.specs.declared.pattern.Pattern.{Pattern}
-use Rattle.correction.specs.MendingSteps.Found.{Finding, Found}
+use Rattle.correction.specs.MendingSteps.Found.{IsFinding, SearchFinds}
 
 -- the number of ZERO, as the code works it out
-pub zero_number : {S : Type 0} (N : Numbers S) (F : FieldOn S) (z : S) (n : ℕ) → z ≡ F.𝟘 → n ≡ N.number z → N.number F.𝟘 ≡ n
+pub zero_number : {S : Type 0} (N : Enumeration S) (F : FieldOn S) (z : S) (n : ℕ) → z ≡ F.𝟘 → n ≡ N.number z → N.number F.𝟘 ≡ n
 zero_number N F z n is-z is-n = ap N.number (sym is-z) ∙ sym is-n
 
 module _ (C : NumericCode) (r w : ℕ) (b : Book) where
@@ -30,21 +30,21 @@ module _ (C : NumericCode) (r w : ℕ) (b : Book) where
     pub room : C.bound ≤ r
     pub working : 12 * (C.bound + 2) ≤ w
 
-  pub able : unmendable C r w b ≡ None → Able
+  pub able : search_fault C r w b ≡ None → Able
   able q = record {
     short = grind (arith, nat_tests);
     room = grind (arith, nat_tests);
     working = grind (arith, nat_tests);
   }
 
-  module _ (law : Lawful C) (below : AllByRecursion (λ v. v < 32) (row b)) (none : unmendable C r w b ≡ None) where
+  module _ (law : IsLawful C) (below : AllByRecursion (λ v. v < 32) (row b)) (none : search_fault C r w b ≡ None) where
     symbols : AllByRecursion (λ v. v < C.size) (row b)
     symbols = subst (λ (k : ℕ). AllByRecursion (λ v. v < k) (row b)) (sym law.alphabet) below
 
-    pub found : (p : Pattern) → Proposes C b w (Some p) → Fits C b p → Found C r w b (Ok p)
+    pub found : (p : Pattern) → Proposes C b w (Some p) → Fits C b p → SearchFinds C r w b (Ok p)
     found p proposes fits =
-        let n = subtracted C p (row b) in
-        let near : Near C b n = fits_near C b p fits in
+        let n = row_less C p (row b) in
+        let near : IsNear C b n = fits_near C b p fits in
         let can = able none in
         let same : Some p ≡ Some (changes C b n) = proposes n can.short can.working near in
         let listed : p ≡ changes C b n = cc in
@@ -60,14 +60,14 @@ module _ (C : NumericCode) (r w : ℕ) (b : Book) where
           room = omega (arith, few, long, can.room);
         }
 
-    unfit : (p : Pattern) → Proposes C b w (Some p) → ¬ Fits C b p → Mends C r w b (refused (told Unfit)) None
+    unfit : (p : Pattern) → Proposes C b w (Some p) → ¬ Fits C b p → SearchGives C r w b (refused (code_refusal Unfit)) None
     unfit p proposes never = none_near none (λ n near.
         let can = able none in
         let same : Some p ≡ Some (changes C b n) = proposes n can.short can.working near in
         let listed : p ≡ changes C b n = cc in
         never (subst (Fits C b) (sym listed) (changes_fit C law b n symbols near)))
 
-    none_found : Proposes C b w None → Mends C r w b (refused (told Unfit)) None
+    none_found : Proposes C b w None → SearchGives C r w b (refused (code_refusal Unfit)) None
     none_found proposes = none_near none (λ n near.
         let can = able none in
         let same : None ≡ Some (changes C b n) = proposes n can.short can.working near in
@@ -75,28 +75,28 @@ module _ (C : NumericCode) (r w : ℕ) (b : Book) where
 
     -- a proposal that does not fit says that no row is near
     pub checked : (proposed kept : Option Pattern) (Answers : Pattern → Bool → Type 0) → ((p : Pattern) (t : Bool) → Answers p t → Decides t (Fits C b p))
-        → Proposes C b w proposed → MatchOption proposed (kept ≡ None) (λ p. (t : Bool) × Answers p t × (kept ≡ then_some t p)) → Found C r w b (ok_or kept Unfit)
+        → Proposes C b w proposed → MatchOption proposed (kept ≡ None) (λ p. (t : Bool) × Answers p t × (kept ≡ then_some t p)) → SearchFinds C r w b (ok_or kept Unfit)
     checked None kept Answers decides proposes q = rw q (none_found proposes)
     checked (Some p) kept Answers decides proposes (t, a, q) = rw q (by t (decides p t a))
       where
-        by : (t : Bool) → Decides t (Fits C b p) → Found C r w b (ok_or (then_some t p) Unfit)
+        by : (t : Bool) → Decides t (Fits C b p) → SearchFinds C r w b (ok_or (then_some t p) Unfit)
         by true d = found p proposes (d.0 refl)
         by false d = unfit p proposes (not_from_Decides false d refl)
 
   -- the records of an answer, at the front of a list
-  module _ (cs rs old : List Record) (i j : ℕ) (f : Finding C r w b cs) (many : i ≡ length cs) (changed : j ≡ nonzero C cs) (front : rs ≡ cs ++ drop (length cs) old) where
-    answer : listed (take i rs) i j ≡ lists C b f.meant
+  module _ (cs rs old : List Record) (i j : ℕ) (f : IsFinding C r w b cs) (many : i ≡ length cs) (changed : j ≡ nonzero_count C cs) (front : rs ≡ cs ++ drop (length cs) old) where
+    answer : listed (take i rs) i j ≡ listing_of C b f.meant
     answer =
         let taken : take i rs ≡ changes C b f.meant = ap (take i) front ∙ take_at cs (drop (length cs) old) i (sym many) ∙ f.listed in
         let as_many : i ≡ length (changes C b f.meant) = many ∙ ap length f.listed in
-        let as-changed : j ≡ nonzero C (changes C b f.meant) = changed ∙ ap (nonzero C) f.listed in
+        let as-changed : j ≡ nonzero_count C (changes C b f.meant) = changed ∙ ap (nonzero_count C) f.listed in
         cc
 
     pub solved : Follows b (solve C r w) (listed (take i rs) i j) b
     solved = subst (λ a. Follows b (solve C r w) a b) (sym answer) (solves (one_near f.workable f.near))
 
     -- es, a copy, was subtracted
-    pub settled_by : (es : List Record) → es ≡ cs → (next : Book) → next ≡ map sure (subtracted C es (row b)) → Follows b (settle C r w) (listed (take i rs) i j) next
+    pub settled_by : (es : List Record) → es ≡ cs → (next : Book) → next ≡ map undoubted_place (row_less C es (row b)) → Follows b (settle C r w) (listed (take i rs) i j) next
     settled_by es same next is-next =
-        let row_is : next ≡ map sure f.meant = is-next ∙ ap (λ fs. map sure (subtracted C fs (row b))) same ∙ ap (map sure) f.subtracts in
-        subst (λ d. Follows b (settle C r w) (listed (take i rs) i j) d) (sym row_is) (subst (λ a. Follows b (settle C r w) a (map sure f.meant)) (sym answer) (settles (one_near f.workable f.near)))
+        let row_is : next ≡ map undoubted_place f.meant = is-next ∙ ap (λ fs. map undoubted_place (row_less C fs (row b))) same ∙ ap (map undoubted_place) f.subtracts in
+        subst (λ d. Follows b (settle C r w) (listed (take i rs) i j) d) (sym row_is) (subst (λ a. Follows b (settle C r w) a (map undoubted_place f.meant)) (sym answer) (settles (one_near f.workable f.near)))

@@ -1,14 +1,14 @@
--- What decoding finds by a list of the syndromes of a book is what it finds by the book. Assumes nothing.
+-- What decoding finds by a list of the syndromes of a book is what it finds by the book.
 use Rattle.std.proofs.Common.{◌≡◌, ℕ, Bool, List, length, ap, ◌∙◌, ap₂}
 use Rattle.algebra.specs.Code.{Code, bound}
 use Rattle.algebra.specs.Decode.{error_locator, errata_locator, errata_evaluator}
 use Rattle.algebra.specs.Field.{FieldOn, pow}
 use Rattle.algebra.specs.Poly.{coeff, tab}
-use Rattle.algebra.specs.Rows.{Book, symbols, doubted_places, positions, syndrome, locator_of, doubted_positions, found_locator}
+use Rattle.algebra.specs.Rows.{BookOf, symbols, doubted_places, positions, syndrome, locator_of, doubted_positions, found_locator}
 use Rattle.algebra.proofs.Tab.{length_tab}
 use Rattle.correction.proofs.Locates.{error_locator_tab, errata_locator_tab, errata_evaluator_tab}
 
-module _ {S E : Type 0} (s : FieldOn S) (e : FieldOn E) (up : S → E) (C : Code S E) (b : Book S) (row : List S) (marks : List Bool) (list : List E)
+module _ {S E : Type 0} (s : FieldOn S) (e : FieldOn E) (up : S → E) (C : Code S E) (b : BookOf S) (row : List S) (marks : List Bool) (list : List E)
     (is_row : row ≡ symbols b) (is-marks : marks ≡ doubted_places b) (is-list : list ≡ tab (bound C) (syndrome s e up C row)) where
   -- the syndromes of the book itself
   abbrev syndromes : ℕ → E

@@ -1,4 +1,4 @@
--- A search for roots: where it starts, and its next index. Assumes nothing.
+-- A search for roots: where it starts, and its next index.
 use Rattle.std.proofs.Common.{◌≡◌, ℕ, ◌<◌, List, [], ◌∷◌, map, length, drop, Some, Ok, Option, Result, sym, refl, ap, ◌∙◌, subst, arith}
 use native.Mathlib.Decide.{dec_lt}
 use Rattle.std.proofs.lemmas.Option.{none-some, same_Some}
@@ -6,10 +6,10 @@ use Rattle.std.specs.List.{slice_get}
 use Rattle.algebra.specs.Decode.{root_position}
 use Rattle.algebra.specs.Field.{FieldOn, HasOrder}
 use Rattle.book.specs.declared.record.Record.{Record}
-use Rattle.lists.specs.Faults.{asked}
+use Rattle.lists.specs.Faults.{unless_empty}
 use Rattle.lists.specs.declared.fault.ListFault.{ListFault}
 use Rattle.lists.proofs.Filled.{asked_some}
-use Rattle.lists.specs.Roots.{roots, coming, Stepped}
+use Rattle.lists.specs.Roots.{roots, remaining_roots, Steps}
 use Rattle.lists.specs.declared.roots.Roots.{Roots}
 use Rattle.correction.specs.Steps.Listing.{Lists}
 use Rattle.correction.proofs.Onward.{Onward}
@@ -32,10 +32,10 @@ module _ {A : Type 0} (F : FieldOn A) (a : A) where
 
 -- A list that has entries is lent to a cursor.
 module _ {A : Type 0} (F : FieldOn A) (p : List A) (some : 0 < length p) (c : Roots A) where
-  answered : {r : Result (Option ℕ) ListFault} {o : Option ℕ} → r ≡ asked (length p) (slice_get (coming F p c) 0) → r ≡ Ok o → o ≡ slice_get (coming F p c) 0
-  answered answer is = let given = asked_some (length p) (slice_get (coming F p c) 0) some in cc
+  answered : {r : Result (Option ℕ) ListFault} {o : Option ℕ} → r ≡ unless_empty (length p) (slice_get (remaining_roots F p c) 0) → r ≡ Ok o → o ≡ slice_get (remaining_roots F p c) 0
+  answered answer is = let given = asked_some (length p) (slice_get (remaining_roots F p c) 0) some in cc
 
-  stepped : (q : List A) (c' : Roots A) → 0 < length q → Stepped F q c c' → coming F q c' ≡ drop 1 (coming F q c)
+  stepped : (q : List A) (c' : Roots A) → 0 < length q → Steps F q c c' → remaining_roots F q c' ≡ drop 1 (remaining_roots F q c)
   stepped [] c' some s = absurd (omega arith)
   stepped (x ∷ q) c' some s = s
 
@@ -48,13 +48,13 @@ module _ {A : Type 0} (F : FieldOn A) (p : List A) (some : 0 < length p) (c : Ro
   first_none (j ∷ js) never = absurd (never j refl)
 
   -- it answers an index, and has become another
-  pub next_index : (c' : Roots A) {r : Result (Option ℕ) ListFault} {o : Option ℕ} {x : ℕ} → r ≡ asked (length p) (slice_get (coming F p c) 0) → Stepped F p c c' → r ≡ Ok o → o ≡ Some x
-      → coming F p c ≡ x ∷ coming F p c'
+  pub next_index : (c' : Roots A) {r : Result (Option ℕ) ListFault} {o : Option ℕ} {x : ℕ} → r ≡ unless_empty (length p) (slice_get (remaining_roots F p c) 0) → Steps F p c c' → r ≡ Ok o → o ≡ Some x
+      → remaining_roots F p c ≡ x ∷ remaining_roots F p c'
   next_index c' {r} {o} {x} answer s is found =
-      first_some (coming F p c) x (sym found ∙ answered answer is) ∙ ap (λ js. x ∷ js) (sym (stepped p c' some s))
+      first_some (remaining_roots F p c) x (sym found ∙ answered answer is) ∙ ap (λ js. x ∷ js) (sym (stepped p c' some s))
 
-  pub no_index : {r : Result (Option ℕ) ListFault} {o : Option ℕ} → r ≡ asked (length p) (slice_get (coming F p c) 0) → r ≡ Ok o → ((x : ℕ) → ¬ (o ≡ Some x)) → coming F p c ≡ []
-  no_index answer is never = first_none (coming F p c) (λ x e. never x (answered answer is ∙ e))
+  pub no_index : {r : Result (Option ℕ) ListFault} {o : Option ℕ} → r ≡ unless_empty (length p) (slice_get (remaining_roots F p c) 0) → r ≡ Ok o → ((x : ℕ) → ¬ (o ≡ Some x)) → remaining_roots F p c ≡ []
+  no_index answer is never = first_none (remaining_roots F p c) (λ x e. never x (answered answer is ∙ e))
 
 -- Indices js are left, the first of which stands for p.
 module _ {Change : ℕ → ℕ → Type 0} (n : ℕ) {all : List ℕ} {before hs : List Record} (order : ℕ) {js : List ℕ} (o : Onward Change n all before (map (root_position order) js) hs) where

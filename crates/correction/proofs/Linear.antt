@@ -1,9 +1,9 @@
--- A list times 1 - x z, worked out in place from its front, and one entry more for the top. Assumes nothing.
+-- A list times 1 - x z, worked out in place from its front, and one entry more for the top.
 use Rattle.std.proofs.Common.{◌≡◌, ℕ, ◌+◌, ◌<◌, ◌≤◌, List, [], ◌∷◌, ◌++◌, length, get_or, set, sym, ap, ◌∙◌, ap₂, add-one, append-nil, arith}
 use Rattle.std.proofs.lemmas.List.{drop_all, get_or_default}
 use Rattle.algebra.specs.Field.{FieldOn}
 use Rattle.algebra.specs.Poly.{coeff, tab}
-use Rattle.algebra.specs.Series.{shift, lin}
+use Rattle.algebra.specs.Series.{shift, times_linear}
 use Rattle.algebra.proofs.Laws.{neg_mul}
 use Rattle.algebra.proofs.Linear.{length_lin, coeff_lin}
 use Rattle.algebra.proofs.Poly.{coeff_high}
@@ -12,7 +12,7 @@ use Rattle.lists.proofs.Filled.{Filled, filled_more, filled_read, tab_more}
 
 module _ {A : Type 0} (F : FieldOn A) (x : A) (e : List A) where
   abbrev product : ℕ → A
-  product = coeff F (lin F x e)
+  product = coeff F (times_linear F x e)
 
   -- the first i entries of the product are in, and `below` is the list's own entry before i
   pub record Turned (i : ℕ) (below : A) (w : List A) : Type 0 where
@@ -39,9 +39,9 @@ module _ {A : Type 0} {F : FieldOn A} {x : A} {e : List A} {i : ℕ} {below : A}
         carried = own ∙ ap (shift F (coeff F e)) (sym (add-one i));
       }
 
-  pub turned_all : {own m y : A} → length e ≤ i → i ≤ length e → own ≡ 𝟘 → m ≡ x ⊗ below → y ≡ own ⊕ ⊖ m → w ++ (y ∷ []) ≡ lin F x e
+  pub turned_all : {own m y : A} → length e ≤ i → i ≤ length e → own ≡ 𝟘 → m ≡ x ⊗ below → y ≡ own ⊕ ⊖ m → w ++ (y ∷ []) ≡ times_linear F x e
   turned_all {own} {m} {y} past within eo em ey =
       let none : own ≡ coeff F e i = eo ∙ sym (coeff_high F e i past) in
       let full : w ≡ tab i (product F x e) = h.filled.is ∙ ap (λ r. tab i (product F x e) ++ r) (drop_all i e past) ∙ append-nil (tab i (product F x e)) in
-      let long : i + 1 ≡ length (lin F x e) = omega (arith, length_lin F x e) in
-      ap₂ (λ u v. u ++ (v ∷ [])) full (value none em ey) ∙ sym (tab_more i (product F x e)) ∙ ap (λ n. tab n (product F x e)) long ∙ tab_coeff F (lin F x e)
+      let long : i + 1 ≡ length (times_linear F x e) = omega (arith, length_lin F x e) in
+      ap₂ (λ u v. u ++ (v ∷ [])) full (value none em ey) ∙ sym (tab_more i (product F x e)) ∙ ap (λ n. tab n (product F x e)) long ∙ tab_coeff F (times_linear F x e)

@@ -1,5 +1,5 @@
 -- What decoding finds, as records: the doubted positions, and then those of the roots, give the changes of a near
--- book in the order in which they are listed. Assumes nothing.
+-- book in the order in which they are listed.
 --   record_at       the record of a position: its place, and the number of the change there
 --   Right           a position that decoding answers rightly
 --   listed_changes  the records of all positions are the changes to the near row
@@ -8,12 +8,11 @@ use Rattle.std.proofs.Common.{◌≡◌, ℕ, zero, suc, ◌+◌, ◌-◌, ◌<�
 use native.Mathlib.Decide.{ℕ_discrete}
 use lib.ListN.{length-map}
 use Rattle.std.proofs.lemmas.List.{drop-map, get_or-drop, get_or-map, get_or-take, length-drop, length-take-le, map-append, take-map}
-use Rattle.algebra.specs.Code.{Code, Lawful}
+use Rattle.algebra.specs.Code.{Code, IsLawfulCode}
 use Rattle.algebra.specs.Decode.{root_position}
-use Rattle.algebra.specs.Field.{Drops, FieldOn, HasOrder, Lifts, Numbers}
+use Rattle.algebra.specs.Field.{Drops, FieldOn, HasOrder, IsEmbedding, Enumeration}
 use Rattle.algebra.specs.Poly.{coeff}
-use Rattle.algebra.specs.Rows as rows
-use Rattle.algebra.specs.Rows.{change, doubted_places, doubted_positions, error_positions, found_change, found_locator, found_slope, positions, wrong_places}
+use Rattle.algebra.specs.Rows.{change_symbol, doubted_places, doubted_positions, error_positions, found_change, found_locator, found_slope, positions, wrong_places, IsNearRow, BookOf}
 use Rattle.algebra.specs.Series.{Mem}
 use Rattle.algebra.proofs.Changes.{length_wrong}
 use Rattle.algebra.proofs.Flags.{positions_below}
@@ -22,9 +21,9 @@ use Rattle.algebra.proofs.Mended.{mends}
 use Rattle.algebra.proofs.Places.{change_of_place}
 use Rattle.lists.specs.Roots.{roots}
 use Rattle.book.specs.Book.{Book, Place, marks, row}
-use Rattle.algebra.specs.NumericCode.{NumericCode, rows_of}
-use Rattle.book.specs.Codes.{Near}
-use Rattle.book.specs.Mending.{changes, changes_at, doubtful, wrong}
+use Rattle.algebra.specs.NumericCode.{NumericCode, numeric_code}
+use Rattle.book.specs.Codes.{IsNear}
+use Rattle.book.specs.Mending.{changes, changes_where, is_doubtful, is_wrong_number}
 use Rattle.book.specs.declared.record.Record.{Record}
 use Rattle.book.proofs.Numbers.{Below, elements, in_elements, length_elements, marks_elements, near_elements, row_elements, sound_below, wrong_elements}
 use Rattle.correction.proofs.RootPositions.{all_zero_first, near_root_positions, others, others_positions, zero_first, zeros, zeros_positions}
@@ -59,7 +58,7 @@ module _ (want : Place → ℕ → Bool) where
     at p = record { place = long - 1 - p; change = Y p }
 
     changes_by_position : (i : ℕ) (b : Book) (n : List ℕ) → i + length b ≡ long → length n ≡ length b
-        → ((k : ℕ) → k < length b → C.sub (get_or (row b) k 0) (get_or n k 0) ≡ Y (length b - 1 - k)) → changes_at want C i b n ≡ map at (positions (flags b n))
+        → ((k : ℕ) → k < length b → C.sub (get_or (row b) k 0) (get_or n k 0) ≡ Y (length b - 1 - k)) → changes_where want C i b n ≡ map at (positions (flags b n))
     changes_by_position i [] n h same values = refl
     changes_by_position i (a ∷ b) [] h same values = absurd (omega arith)
     changes_by_position i (a ∷ b) (v ∷ n) h same values =
@@ -75,20 +74,20 @@ module _ (want : Place → ℕ → Bool) where
             let last : length (a ∷ b) - 1 - 0 ≡ length (flags b n) = omega arith in
             ap₂ (λ (p c : ℕ). record { place = p; change = c }) place (values 0 (omega arith) ∙ ap Y last)
 
-        by : (t : Bool) → changes_at want C (i + 1) b n ≡ map at (positions (flags b n))
-            → cond t (record { place = i; change = C.sub a.symbol v } ∷ changes_at want C (i + 1) b n) (changes_at want C (i + 1) b n) ≡ map at (positions (t ∷ flags b n))
+        by : (t : Bool) → changes_where want C (i + 1) b n ≡ map at (positions (flags b n))
+            → cond t (record { place = i; change = C.sub a.symbol v } ∷ changes_where want C (i + 1) b n) (changes_where want C (i + 1) b n) ≡ map at (positions (t ∷ flags b n))
         by true ih = ap₂ ◌∷◌ first ih
         by false ih = ih
 
-flags_marks : (b : Book) (n : List ℕ) → length n ≡ length b → flags doubtful b n ≡ marks b
+flags_marks : (b : Book) (n : List ℕ) → length n ≡ length b → flags is_doubtful b n ≡ marks b
 flags_marks [] n h = refl
 flags_marks (a ∷ b) [] h = absurd (omega arith)
 flags_marks (a ∷ b) (v ∷ n) h = ap (λ t. a.doubted ∷ t) (flags_marks b n (omega arith))
 
-flags_wrong : (b : Book) (n : List ℕ) → flags wrong b n ≡ wrong_places ℕ_discrete b n
+flags_wrong : (b : Book) (n : List ℕ) → flags is_wrong_number b n ≡ wrong_places ℕ_discrete b n
 flags_wrong [] n = refl
 flags_wrong (a ∷ b) [] = refl
-flags_wrong (a ∷ b) (v ∷ n) = ap (λ t. wrong a v ∷ t) (flags_wrong b n)
+flags_wrong (a ∷ b) (v ∷ n) = ap (λ t. is_wrong_number a v ∷ t) (flags_wrong b n)
 
 map_later : {A : Type 0} (f g : ℕ → A) → ((p : ℕ) → f p ≡ g (suc p)) → (ps : List ℕ) → map f ps ≡ map g (map suc ps)
 map_later f g h [] = refl
@@ -100,15 +99,15 @@ module _ (C : NumericCode) (Y : ℕ → ℕ) (b : Book) (n : List ℕ) (same : l
   abbrev placed : ℕ → Record
   placed p = record { place = length b - 1 - p; change = Y p }
 
-  last_changes : changes_at wrong C (length b - 1) (drop (length b - 1) b) (drop (length b - 1) n) ≡ map placed (zeros (positions (flags wrong b n)))
+  last_changes : changes_where is_wrong_number C (length b - 1) (drop (length b - 1) b) (drop (length b - 1) n) ≡ map placed (zeros (positions (flags is_wrong_number b n)))
   last_changes =
       let last = length b - 1 in
       let l = length-drop last b in
       let m = length-drop last n in
-      let f = length_flags wrong b n same in
-      changes_by_position wrong C Y (length b) last (drop last b) (drop last n) (omega arith) (omega arith) read
-      ∙ ap (λ fs. map placed (positions fs)) (flags_drop wrong last b n same ∙ ap (λ k. drop (k - 1) (flags wrong b n)) (sym f))
-      ∙ ap (map placed) (sym (zeros_positions (flags wrong b n)))
+      let f = length_flags is_wrong_number b n same in
+      changes_by_position is_wrong_number C Y (length b) last (drop last b) (drop last n) (omega arith) (omega arith) read
+      ∙ ap (λ fs. map placed (positions fs)) (flags_drop is_wrong_number last b n same ∙ ap (λ k. drop (k - 1) (flags is_wrong_number b n)) (sym f))
+      ∙ ap (map placed) (sym (zeros_positions (flags is_wrong_number b n)))
     where
       read : (k : ℕ) → k < length (drop (length b - 1) b) → C.sub (get_or (row (drop (length b - 1) b)) k 0) (get_or (drop (length b - 1) n) k 0) ≡ Y (length (drop (length b - 1) b) - 1 - k)
       read k h =
@@ -118,16 +117,16 @@ module _ (C : NumericCode) (Y : ℕ → ℕ) (b : Book) (n : List ℕ) (same : l
           ap₂ C.sub (ap (λ (t : List ℕ). get_or t k 0) (sym (drop-map (λ a. a.symbol) last b)) ∙ get_or-drop last (row b) k 0) (get_or-drop last n k 0)
           ∙ values (last + k) (omega arith) ∙ ap Y position
 
-  other_changes : changes_at wrong C 0 (take (length b - 1) b) (take (length b - 1) n) ≡ map placed (others (positions (flags wrong b n)))
+  other_changes : changes_where is_wrong_number C 0 (take (length b - 1) b) (take (length b - 1) n) ≡ map placed (others (positions (flags is_wrong_number b n)))
   other_changes =
       let last = length b - 1 in
       let l = length-take-le last b (omega arith) in
       let m = length-take-le last n (omega arith) in
-      let f = length_flags wrong b n same in
-      changes_by_position wrong C (λ p. Y (suc p)) last 0 (take last b) (take last n) (omega arith) (omega arith) read
-      ∙ map_later (λ p. record { place = last - 1 - p; change = Y (suc p) }) placed later (positions (flags wrong (take last b) (take last n)))
-      ∙ ap (λ fs. map placed (map suc (positions fs))) (flags_take wrong last b n ∙ ap (λ k. take (k - 1) (flags wrong b n)) (sym f))
-      ∙ ap (map placed) (sym (others_positions (flags wrong b n)))
+      let f = length_flags is_wrong_number b n same in
+      changes_by_position is_wrong_number C (λ p. Y (suc p)) last 0 (take last b) (take last n) (omega arith) (omega arith) read
+      ∙ map_later (λ p. record { place = last - 1 - p; change = Y (suc p) }) placed later (positions (flags is_wrong_number (take last b) (take last n)))
+      ∙ ap (λ fs. map placed (map suc (positions fs))) (flags_take is_wrong_number last b n ∙ ap (λ k. take (k - 1) (flags is_wrong_number b n)) (sym f))
+      ∙ ap (map placed) (sym (others_positions (flags is_wrong_number b n)))
     where
       later : (p : ℕ) → record { place = length b - 1 - 1 - p; change = Y (suc p) } ≡ placed (suc p)
       later p = let place : length b - 1 - 1 - p ≡ length b - 1 - suc p = omega arith in ap (λ k. record { place = k; change = Y (suc p) }) place
@@ -143,18 +142,18 @@ module _ (C : NumericCode) (Y : ℕ → ℕ) (b : Book) (n : List ℕ) (same : l
   changes_placed : changes C b n ≡ map placed (positions (marks b)) ++ map placed (zero_first (positions (wrong_places ℕ_discrete b n)))
   changes_placed =
       ap₂ ◌++◌
-      (changes_by_position doubtful C Y (length b) 0 b n (omega arith) same values ∙ ap (λ fs. map placed (positions fs)) (flags_marks b n same))
+      (changes_by_position is_doubtful C Y (length b) 0 b n (omega arith) same values ∙ ap (λ fs. map placed (positions fs)) (flags_marks b n same))
       (ap₂ ◌++◌ last_changes other_changes
-      ∙ sym (map-append placed (zeros (positions (flags wrong b n))) (others (positions (flags wrong b n))))
+      ∙ sym (map-append placed (zeros (positions (flags is_wrong_number b n))) (others (positions (flags is_wrong_number b n))))
       ∙ ap (λ fs. map placed (zero_first (positions fs))) (flags_wrong b n))
 
 -- the positions of the roots that decoding finds, in the order of the search, the root being of that order
-abbrev pub root_list : {S E : Type 0} → Numbers S → FieldOn S → (e : FieldOn E) → (S → E) → Code S E → Book → ℕ → List ℕ
+abbrev pub root_list : {S E : Type 0} → Enumeration S → FieldOn S → (e : FieldOn E) → (S → E) → Code S E → Book → ℕ → List ℕ
 root_list N s e up C b ord = map (root_position ord) (roots e (found_locator s e up C (in_elements N b)) C.root ord)
 
-module _ {S E : Type 0} (N : Numbers S) (s : FieldOn S) (e : FieldOn E) (up : S → E) (C : Code S E) (b : Book) (n : List ℕ) where
+module _ {S E : Type 0} (N : Enumeration S) (s : FieldOn S) (e : FieldOn E) (up : S → E) (C : Code S E) (b : Book) (n : List ℕ) where
   abbrev pub change_number : ℕ → ℕ
-  change_number p = N.number (change s e up C (in_elements N b) (elements N n) p)
+  change_number p = N.number (change_symbol s e up C (in_elements N b) (elements N n) p)
 
   abbrev pub record_at : ℕ → Record
   record_at p = record { place = length b - 1 - p; change = change_number p }
@@ -163,25 +162,25 @@ module _ {S E : Type 0} (N : Numbers S) (s : FieldOn S) (e : FieldOn E) (up : S 
   pub record Right (p : ℕ) : Type 0 where
     pub on_slip : p < length b
     pub sloped : ¬ (found_slope s e up C (in_elements N b) p ≡ e.𝟘)
-    pub value : found_change s e up C (in_elements N b) p ≡ up (change s e up C (in_elements N b) (elements N n) p)
-    pub drops : (r : Option S) → Drops up (found_change s e up C (in_elements N b) p) r → r ≡ Some (change s e up C (in_elements N b) (elements N n) p)
+    pub value : found_change s e up C (in_elements N b) p ≡ up (change_symbol s e up C (in_elements N b) (elements N n) p)
+    pub drops : (r : Option S) → Drops up (found_change s e up C (in_elements N b) p) r → r ≡ Some (change_symbol s e up C (in_elements N b) (elements N n) p)
 
-module _ {S E : Type 0} (N : Numbers S) (s : FieldOn S) (e : FieldOn E) (up : S → E) (L : Lifts s e up) (C : Code S E) (lawful : Lawful s e up C)
-    (b : Book) (n : List ℕ) (symbols-below : Below N (row b)) (short : length b ≤ C.limit) (near : Near (rows_of N s C) b n) where
-  abbrev b_s : rows.Book S
+module _ {S E : Type 0} (N : Enumeration S) (s : FieldOn S) (e : FieldOn E) (up : S → E) (L : IsEmbedding s e up) (C : Code S E) (lawful : IsLawfulCode s e up C)
+    (b : Book) (n : List ℕ) (symbols-below : Below N (row b)) (short : length b ≤ C.limit) (near : IsNear (numeric_code N s C) b n) where
+  abbrev b_s : BookOf S
   b_s = in_elements N b
 
   abbrev n_s : List S
   n_s = elements N n
 
-  close : rows.Near s C b_s n_s
+  close : IsNearRow s C b_s n_s
   close = near_elements N s C b n symbols-below near
 
   short_s : length b_s ≤ C.limit
   short_s = let l = length_elements N b in omega arith
 
   -- the number of the change at a position is the symbol there less the one that was meant
-  change_read : (k : ℕ) → k < length b → (rows_of N s C).sub (get_or (row b) k 0) (get_or n k 0) ≡ change_number N s e up C b n (length b - 1 - k)
+  change_read : (k : ℕ) → k < length b → (numeric_code N s C).sub (get_or (row b) k 0) (get_or n k 0) ≡ change_number N s e up C b n (length b - 1 - k)
   change_read k h =
       let l = length_elements N b in
       let m = near.same_length in
@@ -192,7 +191,7 @@ module _ {S E : Type 0} (N : Numbers S) (s : FieldOn S) (e : FieldOn E) (up : S 
       ∙ ap (λ j. change_number N s e up C b n (j - 1 - k)) l
 
   wrong_same : positions (wrong_places ℕ_discrete b n) ≡ error_positions s e up C b_s n_s
-  wrong_same = ap positions (wrong_elements N s.discrete b n symbols-below (sound_below N s C n near.sound))
+  wrong_same = ap positions (wrong_elements N s.dec_eq b n symbols-below (sound_below N s C n near.sound))
 
   right : (p : ℕ) → Mem p (error_positions s e up C b_s n_s ++ doubted_positions s e up C b_s) → Right N s e up C b n p
   right p m =
@@ -204,7 +203,7 @@ module _ {S E : Type 0} (N : Numbers S) (s : FieldOn S) (e : FieldOn E) (up : S 
       let found = mends s e up L C lawful b_s n_s short_s close in
       record {
         on_slip = all_at (λ q. q < length b) (errs ++ ers) (all_append (λ q. q < length b) errs ers
-            (positions_below (wrong_places s.discrete b_s n_s) (length b) (omega arith)) (positions_below (doubted_places b_s) (length b) (omega arith))) m;
+            (positions_below (wrong_places s.dec_eq b_s n_s) (length b) (omega arith)) (positions_below (doubted_places b_s) (length b) (omega arith))) m;
         sloped = found.sloped p m;
         value = found.value p m;
         drops = found.drops p m;
@@ -228,8 +227,8 @@ module _ {S E : Type 0} (N : Numbers S) (s : FieldOn S) (e : FieldOn E) (up : S 
         subst (AllByRecursion R) (sym roots_are) (all_zero_first R errs (all_left R errs (doubted_positions s e up C b_s) rights))
 
     -- the records of the doubted positions and then of the roots
-    pub listed_changes : map (record_at N s e up C b n) (positions (marks b)) ++ map (record_at N s e up C b n) (root_list N s e up C b ord) ≡ changes (rows_of N s C) b n
+    pub listed_changes : map (record_at N s e up C b n) (positions (marks b)) ++ map (record_at N s e up C b n) (root_list N s e up C b ord) ≡ changes (numeric_code N s C) b n
     listed_changes =
         let rec = record_at N s e up C b n in
         ap (λ ps. map rec (positions (marks b)) ++ map rec ps) (roots_are ∙ ap zero_first (sym wrong_same))
-        ∙ sym (changes_placed (rows_of N s C) (change_number N s e up C b n) b n near.same_length change_read)
+        ∙ sym (changes_placed (numeric_code N s C) (change_number N s e up C b n) b n near.same_length change_read)

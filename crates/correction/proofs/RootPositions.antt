@@ -1,16 +1,16 @@
 -- The positions of a locator's roots, in the order in which a search by ascending index finds them: index 0 is
--- position 0, and from then on positions fall. Assumes nothing.
+-- position 0, and from then on positions fall.
 --   Falls m ps        each position is below the one before it, the first below m
 --   zero_first ps     position 0 first, if it is listed, then the others in their order
 use Rattle.std.specs.List.{AllByRecursion}
 use Rattle.std.proofs.Common.{◌≡◌, ℕ, zero, suc, ◌+◌, ◌-◌, ◌<◌, ◌≤◌, Bool, true, false, ◌⊎◌, List, [], ◌∷◌, ◌++◌, map, length, take, drop, sym, refl, ap, ◌∙◌, subst, ap₂, inl, inr, arith}
 use Rattle.std.proofs.lemmas.List.{length-append, length-take-le}
 use Rattle.std.proofs.lemmas.Bool.{cases_lt}
-use Rattle.algebra.specs.Code.{Code, Lawful}
+use Rattle.algebra.specs.Code.{Code, IsLawfulCode}
 use Rattle.algebra.specs.Decode.{root_position}
-use Rattle.algebra.specs.Field.{FieldOn, HasOrder, Lifts, pow}
+use Rattle.algebra.specs.Field.{FieldOn, HasOrder, IsEmbedding, pow}
 use Rattle.algebra.specs.Poly.{eval}
-use Rattle.algebra.specs.Rows.{Book, Near, error_positions, found_locator, IsRoot, positions, wrong_places}
+use Rattle.algebra.specs.Rows.{BookOf, IsNearRow, error_positions, found_locator, IsRoot, positions, wrong_places}
 use Rattle.algebra.specs.Series.{Mem, here, there}
 use Rattle.algebra.proofs.Changes.{length_wrong}
 use Rattle.algebra.proofs.Chien.{root_is_inverse}
@@ -201,7 +201,7 @@ module _ {A : Type 0} (F : FieldOn A) (a : A) (ord : ℕ) (o : HasOrder F a ord)
   falling_positions zero i h [] l = refl
   falling_positions zero i h (q ∷ ps) l = let b = l.falls.0 in let c = l.positive.0 in absurd (omega arith)
   falling_positions (suc k) i h ps l =
-      by (F.discrete (eval F p (pow F a (suc i))) 𝟘) ps l (falling_positions k (suc i) (omega arith))
+      by (F.dec_eq (eval F p (pow F a (suc i))) 𝟘) ps l (falling_positions k (suc i) (omega arith))
     where
       next : root_position ord (suc i) ≡ suc k
       next = omega arith
@@ -234,9 +234,9 @@ module _ {A : Type 0} (F : FieldOn A) (a : A) (ord : ℕ) (o : HasOrder F a ord)
 
       by : (k : ℕ) → k ≡ ord → 0 < k → map (root_position ord) (roots F p a k) ≡ zero_first ps
       by zero h b = absurd (omega arith)
-      by (suc k) h b = first k h (F.discrete (eval F p (pow F a 0)) 𝟘)
+      by (suc k) h b = first k h (F.dec_eq (eval F p (pow F a 0)) 𝟘)
 
-module _ {S E : Type 0} (s : FieldOn S) (e : FieldOn E) (up : S → E) (L : Lifts s e up) (C : Code S E) (lawful : Lawful s e up C) (ord : ℕ) (o : HasOrder e C.root ord) where
+module _ {S E : Type 0} (s : FieldOn S) (e : FieldOn E) (up : S → E) (L : IsEmbedding s e up) (C : Code S E) (lawful : IsLawfulCode s e up C) (ord : ℕ) (o : HasOrder e C.root ord) where
   -- a row within the limit is not longer than the order
   pub limit_in_order : C.limit ≤ ord
   limit_in_order = by (cases_lt ord C.limit)
@@ -245,9 +245,9 @@ module _ {S E : Type 0} (s : FieldOn S) (e : FieldOn E) (up : S → E) (L : Lift
       by (inl h) = absurd (lawful.limit_order ord o.positive h o.returns)
       by (inr h) = h
 
-  module _ (b : Book S) (n : List S) (short : length b ≤ C.limit) (near : Near s C b n) where
+  module _ (b : BookOf S) (n : List S) (short : length b ≤ C.limit) (near : IsNearRow s C b n) where
     below : AllByRecursion (λ q. q < C.limit) (error_positions s e up C b n)
-    below = let l = length_wrong s b n near.same_length in positions_below (wrong_places s.discrete b n) C.limit (omega arith)
+    below = let l = length_wrong s b n near.same_length in positions_below (wrong_places s.dec_eq b n) C.limit (omega arith)
 
     no_root_past : (q : ℕ) → q < ord → C.limit ≤ q → ¬ IsRoot s e up C b q
     no_root_past q h past =
@@ -268,7 +268,7 @@ module _ {S E : Type 0} (s : FieldOn S) (e : FieldOn E) (up : S → E) (L : Lift
     -- the search finds the error positions of a near book, position 0 first
     pub near_root_positions : map (root_position ord) (roots e (found_locator s e up C b) C.root ord) ≡ zero_first (error_positions s e up C b n)
     near_root_positions =
-        let fs = wrong_places s.discrete b n in
+        let fs = wrong_places s.dec_eq b n in
         let l = length_wrong s b n near.same_length in
         let within = limit_in_order in
         root_positions e C.root ord o (found_locator s e up C b) (error_positions s e up C b n)

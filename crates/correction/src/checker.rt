@@ -1,8 +1,8 @@
 // The checker: it accepts a list of records, whoever proposed it, exactly if it is a pattern that fits.
 ghost use Rattle.std.specs.Prelude.{◌≡◌, Decides};
 ghost use Rattle.algebra.specs.Series.{Mem};
-ghost use Rattle.book.specs.Mending.{places, elsewhere, Fits};
-ghost use Rattle.correction.specs.MendingSteps.Checked.{Admits, Sensible, Covers, Formed};
+ghost use Rattle.book.specs.Mending.{record_places, undoubted_count, Fits};
+ghost use Rattle.correction.specs.MendingSteps.Checked.{Admits, IsSensible, Covers, IsFormed};
 
 use crate::subtracting::mended;
 use book::Record;
@@ -32,7 +32,7 @@ struct Proposal<'a> {
 impl Proposal<'_> {
     // Whether the records are a pattern within the bound, whatever row they lead to.
     fn is_formed<C: Checksum>(&self) -> bool
-        ensures { Decides result (Formed C.rows self.now.slip.now self.now.records.now) }
+        ensures { Decides result (IsFormed C.rows self.now.slip.now self.now.records.now) }
     {
         C::laws();
         let bound = bound::<C>();
@@ -45,7 +45,7 @@ impl Proposal<'_> {
 
     // How many records name undoubted places.
     fn elsewhere(&self) -> usize
-        ensures { result ≡ elsewhere self.now.slip.now self.now.records.now }
+        ensures { result ≡ undoubted_count self.now.slip.now self.now.records.now }
     {
         self.records
             .iter()
@@ -56,7 +56,7 @@ impl Proposal<'_> {
     // Whether each record can be part of a pattern, and no place is named twice.
     fn is_sensible<C: Checksum>(&self, nothing: u8) -> bool
         ensures { Decides result
-            (Sensible self.now.slip.now C.rows.size nothing self.now.records.now) }
+            (IsSensible self.now.slip.now C.rows.size nothing self.now.records.now) }
     {
         let mut rest = self.records;
         while let Some((record, later)) = rest.split_first() {
@@ -88,7 +88,7 @@ fn admits<C: Checksum>(slip: &Slip, record: &Record, nothing: u8) -> bool
 
 // Whether a place is named.
 fn names(records: &[Record], place: usize) -> bool
-    ensures { Decides result (Mem place (places records.now)) }
+    ensures { Decides result (Mem place (record_places records.now)) }
 {
     records.iter().any(|record| record.place == place)
 }

@@ -5,8 +5,8 @@ ghost use Rattle.std.specs.Prelude.{◌≡◌, ◌+◌, ◌*◌, ◌≤◌, leng
 ghost use Rattle.algebra.specs.Code.{bound};
 ghost use Rattle.book.specs.Book.{marks};
 ghost use Rattle.correction.specs.Steps.Decoded.{Tells};
-ghost use Rattle.correction.specs.Proposals.{Proposes, worked};
-ghost use Rattle.slip.specs.View.{Holdable};
+ghost use Rattle.correction.specs.Proposals.{Proposes, work_after_search};
+ghost use Rattle.slip.specs.View.{IsHoldable};
 
 use crate::forney::Forney;
 use crate::listing::{list_erasures, list_errors};
@@ -23,7 +23,7 @@ use slip::Slip;
 /// cut into parts from its front, which are lent on, and is all ZERO after. Nothing is proposed where it is shorter.
 pub fn bch_errors<C: Checksum>(slip: &Slip, work: &mut [C::CorrectionField]) -> Option<Pattern>
     ensures proposes { Proposes C.rows slip.now (length work.old) result }
-    ensures after { work.new ≡ worked C.CorrectionField.field (bound C.code) work.old }
+    ensures after { work.new ≡ work_after_search C.CorrectionField.field (bound C.code) work.old }
 {
     C::laws();
     C::CorrectionField::lift_laws();
@@ -47,7 +47,7 @@ fn propose<C: Checksum>(
     requires syndromes { length s.now ≡ bound C.code }
     requires room { 8 * (length s.now + 2) ≤ length work.old }
     ensures tells { Tells C.CorrectionField.field C.CorrectionField.lifted C.SymbolField.numbers s.now (marks slip.now) C.code.root C.code.first result }
-    ensures holdable { Holdable slip.now }
+    ensures holdable { IsHoldable slip.now }
 {
     C::laws();
     let marks = slip.marks();

@@ -2,7 +2,7 @@
 ghost use Rattle.std.specs.Prelude.{◌≡◌, ℕ, ◌<◌, ◌≤◌, length, Some, ◌≢◌};
 ghost use Rattle.algebra.specs.Field.{pow};
 ghost use Rattle.algebra.specs.Poly.{eval};
-ghost use Rattle.correction.specs.Steps.Forney.{forney, Valued};
+ghost use Rattle.correction.specs.Steps.Forney.{forney, HasValue};
 
 use fields::arithmetic::quotient;
 use fields::powers::powers;
@@ -23,7 +23,7 @@ pub(crate) struct Forney<'a, E: ExtensionField> {
 }
 
 impl<E: ExtensionField> Forney<'_, E> {
-    ghost use Rattle.correction.specs.Steps.Changes.{ChangeAt};
+    ghost use Rattle.correction.specs.Steps.Changes.{HasChangeAt};
 
     // The change at a locator x, none where the derivative is ZERO at 1/x:
     //
@@ -44,7 +44,7 @@ impl<E: ExtensionField> Forney<'_, E> {
 
     // The number of the symbol that the change at a position is, none where it is none.
     pub(crate) fn change_at(&self, position: usize) -> Option<u8>
-        ensures { (y : ℕ) → ChangeAt self.now position y → result ≡ Some y }
+        ensures { (y : ℕ) → HasChangeAt self.now position y → result ≡ Some y }
     {
         E::lift_laws();
         let symbol = self.value(powers(self.root).nth(position))?.drop_to_base()?;

@@ -1,11 +1,11 @@
 // Mending by a code: a search proposes records, and only what the checker accepts is listed.
 ghost use Rattle.std.specs.Prelude.{◌≡◌, ◌≤◌, ◌++◌, ◌==◌, not, count_by, length, drop};
 ghost use Rattle.std.specs.Result.{result_err};
-ghost use Rattle.book.specs.Calls.{Follows, solve, settle, unmendable};
-ghost use Rattle.book.specs.Mending.{nonzero};
-ghost use Rattle.correction.specs.Answers.{told_list, written, cleared};
-ghost use Rattle.correction.specs.MendingSteps.Found.{Found};
-ghost use Rattle.slip.specs.View.{Holdable};
+ghost use Rattle.book.specs.Calls.{Follows, solve, settle, search_fault};
+ghost use Rattle.book.specs.Mending.{nonzero_count};
+ghost use Rattle.correction.specs.Answers.{search_answer, listed_count, workspace_after};
+ghost use Rattle.correction.specs.MendingSteps.Found.{SearchFinds};
+ghost use Rattle.slip.specs.View.{IsHoldable};
 
 use crate::checker::fits;
 use crate::correction::bch_errors;
@@ -25,9 +25,9 @@ pub fn solve<C: Checksum>(
     work: &mut [C::CorrectionField],
 ) -> Result<(usize, usize), CodeFault>
     ensures follows { Follows slip.now (solve C.rows (length records.old) (length work.old))
-        (told_list result records.new) slip.now }
-    ensures past { drop (written result) records.new ≡ drop (written result) records.old }
-    ensures working { work.new ≡ cleared C.CorrectionField.field result work.old }
+        (search_answer result records.new) slip.now }
+    ensures past { drop (listed_count result) records.new ≡ drop (listed_count result) records.old }
+    ensures working { work.new ≡ workspace_after C.CorrectionField.field result work.old }
 {
     let found = find::<C>(slip, records.len(), work)?;
     Ok(list::<C>(&found, records))
@@ -40,9 +40,9 @@ pub fn settle<C: Checksum>(
     work: &mut [C::CorrectionField],
 ) -> Result<(usize, usize), CodeFault>
     ensures follows { Follows slip.old (settle C.rows (length records.old) (length work.old))
-        (told_list result records.new) slip.new }
-    ensures past { drop (written result) records.new ≡ drop (written result) records.old }
-    ensures working { work.new ≡ cleared C.CorrectionField.field result work.old }
+        (search_answer result records.new) slip.new }
+    ensures past { drop (listed_count result) records.new ≡ drop (listed_count result) records.old }
+    ensures working { work.new ≡ workspace_after C.CorrectionField.field result work.old }
 {
     C::laws();
     let pattern = find::<C>(slip, records.len(), work)?;
@@ -57,8 +57,8 @@ fn find<C: Checksum>(
     records: usize,
     work: &mut [C::CorrectionField],
 ) -> Result<Pattern, CodeFault>
-    ensures found { Found C.rows records (length work.old) slip.now result }
-    ensures working { work.new ≡ cleared C.CorrectionField.field result work.old }
+    ensures found { SearchFinds C.rows records (length work.old) slip.now result }
+    ensures working { work.new ≡ workspace_after C.CorrectionField.field result work.old }
 {
     C::laws();
     C::CorrectionField::lift_laws();
@@ -70,8 +70,8 @@ fn find<C: Checksum>(
 
 // Whether a slip may be mended, whatever its symbols are, with lists of some lengths being lent, and if not, why.
 fn can_mend<C: Checksum>(slip: &Slip, records: usize, work: usize) -> Result<(), CodeFault>
-    ensures fault { result_err result ≡ unmendable C.rows records work slip.now }
-    ensures holdable { Holdable slip.now }
+    ensures fault { result_err result ≡ search_fault C.rows records work slip.now }
+    ensures holdable { IsHoldable slip.now }
 {
     C::laws();
     let bound = bound::<C>();
@@ -97,7 +97,7 @@ fn can_mend<C: Checksum>(slip: &Slip, records: usize, work: usize) -> Result<(),
 fn list<C: Checksum>(pattern: &Pattern, records: &mut [Record]) -> (usize, usize)
     requires { length pattern.now ≤ length records.old }
     ensures many { result.0 ≡ length pattern.now }
-    ensures changed { result.1 ≡ nonzero C.rows pattern.now }
+    ensures changed { result.1 ≡ nonzero_count C.rows pattern.now }
     ensures listed { records.new ≡ pattern.now ++ drop (length pattern.now) records.old }
 {
     C::laws();

@@ -1,6 +1,6 @@
 // Records in fixed memory.
 ghost use Rattle.std.specs.Prelude.{◌≡◌, [], cond, length, Some, None, nat_le};
-ghost use Rattle.correction.specs.Patterns.{Pushed};
+ghost use Rattle.correction.specs.Patterns.{Pushes};
 
 use book::{BLANK, Record};
 use std::marker::Model;
@@ -20,17 +20,17 @@ impl Model for Pattern {
     ghost Value = { List Record };
 
     ghost use Rattle.std.proofs.Common.{sym, ap, ◌∙◌, arith, length-take-le, take-append-drop};
-    ghost use Rattle.correction.specs.Patterns.{Kept, blank, memory, records_of};
+    ghost use Rattle.correction.specs.Patterns.{IsPattern, blank_record, pattern_memory, records_of};
 
     ghost view = { records_of };
 
-    ghost invariant = { Kept };
+    ghost invariant = { IsPattern };
 
-    ghost inverse = { memory };
+    ghost inverse = { pattern_memory };
 
     ghost inverse_ok = { λ p kept i. record {
       records = (
-          ap (λ (n : ℕ). records_of p ++ replicate (16 - n) blank) (length-take-le p.len p.records (omega (arith, kept.sixteen, kept.few)))
+          ap (λ (n : ℕ). records_of p ++ replicate (16 - n) blank_record) (length-take-le p.len p.records (omega (arith, kept.sixteen, kept.few)))
           ∙ ap (λ (rest : List Record). records_of p ++ rest) (sym kept.clear)
           ∙ take-append-drop p.len p.records
           ) i;
@@ -74,7 +74,7 @@ impl Pattern {
     /// One record more; none, and nothing changed, where there are sixteen. An `Option` of nothing, so that `?` ends a search that
     /// has no room: no caller asks why.
     pub fn push(&mut self, record: Record) -> Option<()>
-        ensures { Pushed «record» self.old result self.new }
+        ensures { Pushes «record» self.old result self.new }
     {
         if self.len >= 16 {
             return None;

@@ -1,8 +1,8 @@
 // Changes subtracted from a slip's row. Symbols are numbers here, as the slip has them, so each function says that they are below the code's size.
 ghost use Rattle.std.specs.Prelude.{◌≡◌, ◌<◌, ◌≤◌, All, map, length};
-ghost use Rattle.book.specs.Book.{row, sure};
-ghost use Rattle.book.specs.Mending.{subtracted};
-ghost use Rattle.slip.specs.View.{Holdable};
+ghost use Rattle.book.specs.Book.{row, undoubted_place};
+ghost use Rattle.book.specs.Mending.{row_less};
+ghost use Rattle.slip.specs.View.{IsHoldable};
 
 use book::Record;
 use checksum::Checksum;
@@ -14,8 +14,8 @@ use slip::Slip;
 // slip's.
 pub(crate) fn mended<C: Checksum>(slip: &Slip, records: &[Record]) -> Slip
     requires { All (λ c. c.change < C.rows.size) records.now }
-    ensures mended { result ≡ map sure (subtracted C.rows records.now (row slip.now)) }
-    ensures holdable { Holdable result }
+    ensures mended { result ≡ map undoubted_place (row_less C.rows records.now (row slip.now)) }
+    ensures holdable { IsHoldable result }
 {
     C::laws();
     let mut memory = [0; 89];
@@ -29,12 +29,12 @@ pub(crate) fn mended<C: Checksum>(slip: &Slip, records: &[Record]) -> Slip
 fn subtract<C: Checksum>(symbols: &mut [u8], records: &[Record])
     requires small { All (λ v. v < C.rows.size) symbols.old }
     requires changes { All (λ c. c.change < C.rows.size) records.now }
-    ensures subtracted { symbols.new ≡ subtracted C.rows records.now symbols.old }
+    ensures subtracted { symbols.new ≡ row_less C.rows records.now symbols.old }
     ensures below { All (λ v. v < C.rows.size) symbols.new }
 {
     for record in records {
         if record.place < symbols.len() {
-            symbols[record.place] = less::<C>(symbols[record.place], record.change);
+            symbols[record.place] = sub::<C>(symbols[record.place], record.change);
         }
     }
 }
@@ -43,7 +43,7 @@ fn subtract<C: Checksum>(symbols: &mut [u8], records: &[Record])
 fn undoubted(symbols: &[u8]) -> Slip
     requires small { All (λ v. v < 32) symbols.now }
     requires room { length symbols.now ≤ 89 }
-    ensures { result ≡ map sure symbols.now }
+    ensures { result ≡ map undoubted_place symbols.now }
 {
     let mut slip = Slip::new();
     for symbol in symbols {
@@ -53,10 +53,10 @@ fn undoubted(symbols: &[u8]) -> Slip
 }
 
 // One symbol less another.
-fn less<C: Checksum>(x: u8, y: u8) -> u8
+fn sub<C: Checksum>(x: u8, y: u8) -> u8
     requires left { x < C.rows.size }
     requires right { y < C.rows.size }
-    ensures less { result ≡ C.rows.sub x y }
+    ensures sub { result ≡ C.rows.sub x y }
     ensures below { result < C.rows.size }
 {
     C::laws();

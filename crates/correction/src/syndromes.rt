@@ -6,7 +6,7 @@ ghost use Rattle.algebra.specs.Field.{pow};
 ghost use Rattle.algebra.specs.Poly.{eval, poly_sub, tab};
 ghost use Rattle.algebra.specs.Rows.{syndrome};
 ghost use Rattle.book.specs.Book.{row};
-ghost use Rattle.slip.specs.Sealing.{elements};
+ghost use Rattle.slip.specs.Sealing.{elements_of};
 
 use checksum::Checksum;
 use fields::arithmetic::difference;
@@ -42,7 +42,7 @@ fn subtract_target<C: Checksum>(residue: &mut [C::SymbolField])
 #[tactic(auto, using(checksum::proofs::Sizes::engine_fits))]
 pub(crate) fn syndromes<C: Checksum>(slip: &Slip, out: &mut [C::CorrectionField])
     requires { length out.old ≡ bound C.code }
-    ensures { out.new ≡ tab (bound C.code) (syndrome C.SymbolField.field C.CorrectionField.field C.CorrectionField.lifted C.code (elements C.SymbolField.numbers (row slip.now))) }
+    ensures { out.new ≡ tab (bound C.code) (syndrome C.SymbolField.field C.CorrectionField.field C.CorrectionField.lifted C.code (elements_of C.SymbolField.numbers (row slip.now))) }
 {
     C::laws();
     C::SymbolField::small();

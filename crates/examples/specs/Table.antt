@@ -1,4 +1,4 @@
--- Worked examples: what the definitions compute, row by row, and what is expected. Assumes nothing.
+-- Worked examples: what the definitions compute, row by row, and what is expected.
 use Rattle.std.specs.Prelude.{ℕ, List, [], ◌∷◌, map, length}
 use Rattle.algebra.specs.Code.{seal}
 use Rattle.algebra.specs.Field.{pow}
@@ -9,7 +9,7 @@ use Rattle.fields.specs.Gf32.{gf32, gf32_numbers}
 use Rattle.fields.specs.declared.gf32.Fe32.{Fe32}
 use Rattle.fields.specs.Gf1024.{gf1024, fe1024}
 use Rattle.fields.specs.declared.gf1024.Fe1024.{Fe1024}
-use Rattle.lists.specs.Lists.{product}
+use Rattle.lists.specs.Lists.{mul_mod_x_d}
 
 abbrev element : ℕ → Fe32
 element = gf32_numbers.element
@@ -32,8 +32,8 @@ connection terms = numbers (register gf32 (coeff gf32 (map element terms)) (leng
 abbrev one_one : List Fe32
 one_one = map element (1 ∷ 1 ∷ [])
 
-abbrev pub computed : List (List ℕ)
-computed =
+abbrev pub computed_rows : List (List ℕ)
+computed_rows =
     -- a product in GF(32)
     numbers (gf32.mul (element 6) (element 24) ∷ [])
     -- the check symbols of a row by the finish code
@@ -45,9 +45,9 @@ computed =
     ∷ connection (27 ∷ 0 ∷ 0 ∷ 0 ∷ [])
     ∷ connection (0 ∷ 0 ∷ 5 ∷ [])
     -- 1 + x times itself, uncut and cut at 2
-    ∷ numbers (product gf32 one_one one_one 4)
-    ∷ numbers (product gf32 one_one one_one 2)
+    ∷ numbers (mul_mod_x_d gf32 one_one one_one 4)
+    ∷ numbers (mul_mod_x_d gf32 one_one one_one 2)
     ∷ []
 
-abbrev pub expected : List (List ℕ)
-expected = (2 ∷ []) ∷ (10 ∷ 17 ∷ 15 ∷ 18 ∷ []) ∷ (12 ∷ 24 ∷ []) ∷ (1 ∷ 1 ∷ []) ∷ (1 ∷ 0 ∷ []) ∷ (1 ∷ 0 ∷ 0 ∷ 5 ∷ []) ∷ (1 ∷ 0 ∷ 1 ∷ 0 ∷ []) ∷ (1 ∷ 0 ∷ []) ∷ []
+abbrev pub expected_rows : List (List ℕ)
+expected_rows = (2 ∷ []) ∷ (10 ∷ 17 ∷ 15 ∷ 18 ∷ []) ∷ (12 ∷ 24 ∷ []) ∷ (1 ∷ 1 ∷ []) ∷ (1 ∷ 0 ∷ []) ∷ (1 ∷ 0 ∷ 0 ∷ 5 ∷ []) ∷ (1 ∷ 0 ∷ 1 ∷ 0 ∷ []) ∷ (1 ∷ 0 ∷ []) ∷ []

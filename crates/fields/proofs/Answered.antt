@@ -1,4 +1,4 @@
--- What is known of an element whose inverse, or whose place in the base, was answered or refused. Assumes nothing.
+-- What is known of an element whose inverse, or whose place in the base, was answered or refused.
 use Rattle.std.proofs.Common.{◌≡◌, ℕ, Bool, true, false, Decides, Option, Ok, Err, sym, refl, ap, ◌∙◌, arith}
 use mathlib.Core.Path.{subst⁻¹}
 use Rattle.std.specs.Bool.{then_some}
@@ -13,7 +13,7 @@ use Rattle.fields.proofs.Refusals.{inverse_of_zero, inverse_of_other}
 module _ {A : Type 0} (F : FieldOn A) where
   -- an answer is the other factor of ONE
   pub inverse_ok : (x k : A) → inverse F x ≡ Ok k → F.mul x k ≡ F.𝟙
-  inverse_ok x k e = by (F.discrete x F.𝟘)
+  inverse_ok x k e = by (F.dec_eq x F.𝟘)
     where
       by : Dec (x ≡ F.𝟘) → F.mul x k ≡ F.𝟙
       by (yes z) = let p = inverse_of_zero F x z in let n : ◌≡◌ {A = ℕ} 0 1 = cc in absurd (omega arith)
@@ -25,7 +25,7 @@ module _ {A : Type 0} (F : FieldOn A) where
 
 -- what is refused for x is refused for y, where y is ZERO if x is
 pub inverse_err : {A B : Type 0} (F : FieldOn A) (G : FieldOn B) (x : A) (y : B) (e : FieldFault) → (x ≡ F.𝟘 → y ≡ G.𝟘) → inverse F x ≡ Err e → inverse G y ≡ Err e
-inverse_err F G x y e h f = by (F.discrete x F.𝟘)
+inverse_err F G x y e h f = by (F.dec_eq x F.𝟘)
   where
     by : Dec (x ≡ F.𝟘) → inverse G y ≡ Err e
     by (yes z) = let p = inverse_of_zero F x z in let same : Zero ≡ e = cc in inverse_of_zero G y (h z) ∙ ap Err same

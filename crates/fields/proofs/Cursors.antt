@@ -1,4 +1,4 @@
--- What is ahead of a cursor after a step, a skip or its start. Assumes nothing.
+-- What is ahead of a cursor after a step, a skip or its start.
 use Rattle.std.proofs.Common.{◌≡◌, ℕ, zero, suc, ◌+◌, ◌-◌, ◌≤◌, List, [], ◌∷◌, drop, Some, None, Option, sym, refl, ap, ◌∙◌, ap₂, suc-add, zero-add, arith, drop-drop}
 use native.Mathlib.Nat.{sub-zero, zero-sub, suc-sub-suc}
 use lib.Seq.{drop-nil}
@@ -11,7 +11,7 @@ use Rattle.algebra.proofs.Tab.{tab_same}
 use Rattle.fields.specs.declared.cursor.Powers.{Powers}
 use Rattle.fields.specs.declared.cursor.PowersRange.{PowersRange}
 use Rattle.algebra.specs.Poly.{tab}
-use Rattle.fields.specs.Cursors.{left, ahead, coming}
+use Rattle.fields.specs.Cursors.{left_count, power_ahead, remaining_powers}
 
 tab_drop : {A : Type 0} (m n : ℕ) (f : ℕ → A) → tab (m - n) (λ k. f (n + k)) ≡ drop n (tab m f)
 tab_drop m zero f = ap (λ j. tab j (λ k. f (0 + k))) (sub-zero m) ∙ tab_same m (λ k. f (0 + k)) f (λ k _. ap f (zero-add k))
@@ -31,49 +31,49 @@ first None xs ys e = (ap (λ zs. slice_get zs 0) (sym e.0), e.1 ∙ ap (drop 1) 
 first (Some x) xs ys e = (ap (λ zs. slice_get zs 0) (sym e), ap (drop 1) (sym e))
 
 -- what is left of n, or of the exponents from a to b, by a checked difference
-left_less : (o : Option ℕ) (n : ℕ) → SomeIff o (1 ≤ n) (n - 1) → left o ≡ n
+left_less : (o : Option ℕ) (n : ℕ) → SomeIff o (1 ≤ n) (n - 1) → left_count o ≡ n
 left_less None n c = omega arith
 left_less (Some m) n c = omega arith
 
-left_skipped : (o : Option ℕ) (m n : ℕ) → SomeIff o (n ≤ m) (m - n) → left o ≡ suc m - n
+left_skipped : (o : Option ℕ) (m n : ℕ) → SomeIff o (n ≤ m) (m - n) → left_count o ≡ suc m - n
 left_skipped None m n c = omega arith
 left_skipped (Some k) m n c = omega arith
 
-left_range : (o : Option ℕ) (a b : ℕ) → SomeIff o (a ≤ b) (b - a) → left o ≡ b + 1 - a
+left_range : (o : Option ℕ) (a b : ℕ) → SomeIff o (a ≤ b) (b - a) → left_count o ≡ b + 1 - a
 left_range None a b c = omega arith
 left_range (Some m) a b c = omega arith
 
 module _ {A : Type 0} (F : FieldOn A) where
-  pub ahead_skipped : (p : Powers A) (n : ℕ) (power s : A) → power ≡ pow F p.base n → s ≡ F.mul p.next power → (k : ℕ) → ahead F (record { base = p.base; next = s }) k ≡ ahead F p (n + k)
+  pub ahead_skipped : (p : Powers A) (n : ℕ) (power s : A) → power ≡ pow F p.base n → s ≡ F.mul p.next power → (k : ℕ) → power_ahead F (record { base = p.base; next = s }) k ≡ power_ahead F p (n + k)
   ahead_skipped p n power s e product k =
       ap (λ y. F.mul y (pow F p.base k)) (product ∙ ap (F.mul p.next) e) ∙ F.mul_assoc p.next (pow F p.base n) (pow F p.base k)
       ∙ ap (F.mul p.next) (sym (pow_add F p.base n k))
 
   -- a skip from p to q, then a step
-  pub answer_skipped : (p q : Powers A) (n : ℕ) → ((k : ℕ) → ahead F q k ≡ ahead F p (n + k)) → (a : A) → a ≡ ahead F q 0 → a ≡ ahead F p n
-  answer_skipped p q n skipped a e = let z : n + 0 ≡ n = omega arith in e ∙ skipped 0 ∙ ap (ahead F p) z
+  pub answer_skipped : (p q : Powers A) (n : ℕ) → ((k : ℕ) → power_ahead F q k ≡ power_ahead F p (n + k)) → (a : A) → a ≡ power_ahead F q 0 → a ≡ power_ahead F p n
+  answer_skipped p q n skipped a e = let z : n + 0 ≡ n = omega arith in e ∙ skipped 0 ∙ ap (power_ahead F p) z
 
   module _ (r : PowersRange A) (after : ℕ) (some : r.after ≡ Some after) where
     -- a step answers the first of what is coming, and leaves the others
-    pub coming_stepped : (a : A) (q : Powers A) (o : Option ℕ) → a ≡ ahead F r.powers 0 → SomeIff o (1 ≤ after) (after - 1) → ((k : ℕ) → ahead F q k ≡ ahead F r.powers (suc k)) → coming F r ≡ a ∷ coming F (record { powers = q; after = o })
+    pub coming_stepped : (a : A) (q : Powers A) (o : Option ℕ) → a ≡ power_ahead F r.powers 0 → SomeIff o (1 ≤ after) (after - 1) → ((k : ℕ) → power_ahead F q k ≡ power_ahead F r.powers (suc k)) → remaining_powers F r ≡ a ∷ remaining_powers F (record { powers = q; after = o })
     coming_stepped a q o is c e =
-        ap (λ o. tab (left o) (ahead F r.powers)) some
-        ∙ ap₂ ◌∷◌ (sym is) (sym (ap (λ n. tab n (ahead F q)) (left_less o after c) ∙ tab_same after (ahead F q) (λ k. ahead F r.powers (suc k)) (λ k _. e k)))
+        ap (λ o. tab (left_count o) (power_ahead F r.powers)) some
+        ∙ ap₂ ◌∷◌ (sym is) (sym (ap (λ n. tab n (power_ahead F q)) (left_less o after c) ∙ tab_same after (power_ahead F q) (λ k. power_ahead F r.powers (suc k)) (λ k _. e k)))
 
-    pub coming_skipped : (q : Powers A) (o : Option ℕ) (n : ℕ) → SomeIff o (n ≤ after) (after - n) → ((k : ℕ) → ahead F q k ≡ ahead F r.powers (n + k)) → coming F (record { powers = q; after = o }) ≡ drop n (coming F r)
+    pub coming_skipped : (q : Powers A) (o : Option ℕ) (n : ℕ) → SomeIff o (n ≤ after) (after - n) → ((k : ℕ) → power_ahead F q k ≡ power_ahead F r.powers (n + k)) → remaining_powers F (record { powers = q; after = o }) ≡ drop n (remaining_powers F r)
     coming_skipped q o n c e =
-        ap (λ m. tab m (ahead F q)) (left_skipped o after n c) ∙ tab_same (suc after - n) (ahead F q) (λ k. ahead F r.powers (n + k)) (λ k _. e k)
-        ∙ tab_drop (suc after) n (ahead F r.powers) ∙ ap (λ o. drop n (tab (left o) (ahead F r.powers))) (sym some)
+        ap (λ m. tab m (power_ahead F q)) (left_skipped o after n c) ∙ tab_same (suc after - n) (power_ahead F q) (λ k. power_ahead F r.powers (n + k)) (λ k _. e k)
+        ∙ tab_drop (suc after) n (power_ahead F r.powers) ∙ ap (λ o. drop n (tab (left_count o) (power_ahead F r.powers))) (sym some)
 
   -- the answer, and what is left, after a skip from r to m and a step from m to t
-  module _ (r m t : PowersRange A) (n : ℕ) (skipped : coming F m ≡ drop n (coming F r)) where
-    pub answer_nth : (a : Option A) → YieldsFirst (coming F) m a t → a ≡ slice_get (coming F r) n
-    answer_nth a e = (first a (coming F m) (coming F t) e).0 ∙ ap (λ xs. slice_get xs 0) skipped ∙ nth_drop (coming F r) n
+  module _ (r m t : PowersRange A) (n : ℕ) (skipped : remaining_powers F m ≡ drop n (remaining_powers F r)) where
+    pub answer_nth : (a : Option A) → YieldsFirst (remaining_powers F) m a t → a ≡ slice_get (remaining_powers F r) n
+    answer_nth a e = (first a (remaining_powers F m) (remaining_powers F t) e).0 ∙ ap (λ xs. slice_get xs 0) skipped ∙ nth_drop (remaining_powers F r) n
 
-    pub rest_nth : (a : Option A) → YieldsFirst (coming F) m a t → coming F t ≡ drop (n + 1) (coming F r)
-    rest_nth a e = (first a (coming F m) (coming F t) e).1 ∙ ap (drop 1) skipped ∙ drop-drop 1 n (coming F r)
+    pub rest_nth : (a : Option A) → YieldsFirst (remaining_powers F) m a t → remaining_powers F t ≡ drop (n + 1) (remaining_powers F r)
+    rest_nth a e = (first a (remaining_powers F m) (remaining_powers F t) e).1 ∙ ap (drop 1) skipped ∙ drop-drop 1 n (remaining_powers F r)
 
-  pub coming_range : (x power : A) (a b : ℕ) (o : Option ℕ) → power ≡ pow F x a → SomeIff o (a ≤ b) (b - a) → coming F (record { powers = record { base = x; next = power }; after = o }) ≡ tab (b + 1 - a) (λ k. pow F x (a + k))
+  pub coming_range : (x power : A) (a b : ℕ) (o : Option ℕ) → power ≡ pow F x a → SomeIff o (a ≤ b) (b - a) → remaining_powers F (record { powers = record { base = x; next = power }; after = o }) ≡ tab (b + 1 - a) (λ k. pow F x (a + k))
   coming_range x power a b o e c =
       ap (λ n. tab n (λ k. F.mul power (pow F x k))) (left_range o a b c)
       ∙ tab_same (b + 1 - a) (λ k. F.mul power (pow F x k)) (λ k. pow F x (a + k)) (λ k _. ap (λ y. F.mul y (pow F x k)) e ∙ sym (pow_add F x a k))

@@ -1,6 +1,6 @@
--- Inverses in GF(1024): the conjugate over the norm. Assumes nothing.
+-- Inverses in GF(1024): the conjugate over the norm.
 use Rattle.std.proofs.Common.{◌≡◌, [], ◌∷◌, refl, ap, ◌∙◌}
-use Rattle.algebra.specs.Pair.{times}
+use Rattle.algebra.specs.Pair.{pair_mul}
 use Rattle.algebra.proofs.Solver.{:0, :1, ◌:+◌, ◌:*◌, :-◌, ◌:-◌, v0, v1, v2, solve}
 use Rattle.algebra.proofs.Quadratic.{quadratic, solve₂, norm_ne_zero}
 use Rattle.algebra.proofs.Carried.{carried}
@@ -19,7 +19,7 @@ norm x = x.c0 ⊗ (x.c0 ⊕ x.c1) ⊕ ⊖ (x.c1 ⊗ x.c1)
 
 pub norm_zero : (x : Fe1024) → norm x ≡ 𝟘 → x ≡ gf1024.𝟘
 unfolding gf1024 carried quadratic
-norm_zero x e = elim (gf1024.discrete x gf1024.𝟘) [ yes z ↦ z | no z ↦ absurd (norm_ne_zero gf32 𝟙 𝟙 no_square (pair x) (λ z'. z (ap (λ p. fe1024 p.c0 p.c1) z')) (same ∙ e)) ]
+norm_zero x e = elim (gf1024.dec_eq x gf1024.𝟘) [ yes z ↦ z | no z ↦ absurd (norm_ne_zero gf32 𝟙 𝟙 no_square (pair x) (λ z'. z (ap (λ p. fe1024 p.c0 p.c1) z')) (same ∙ e)) ]
   where
     same : x.c0 ⊗ x.c0 ⊕ 𝟙 ⊗ (x.c0 ⊗ x.c1) ⊕ ⊖ (𝟙 ⊗ (x.c1 ⊗ x.c1)) ≡ norm x
     same = solve gf32 (x.c0 ∷ x.c1 ∷ []) (v0 :* v0 :+ :1 :* (v0 :* v1) :- :1 :* (v1 :* v1)) (v0 :* (v0 :+ v1) :- v1 :* v1) refl
@@ -29,6 +29,6 @@ unfolding gf1024 carried quadratic
 times_conjugate x k e =
     ap (λ p. fe1024 p.c0 p.c1)
     (solve₂ gf32 𝟙 𝟙 (x.c0 ∷ x.c1 ∷ k ∷ [])
-    (times ◌:+◌ ◌:*◌ :1 :1 (record { c0 = v0; c1 = v1 }) (record { c0 = (v0 :+ v1) :* v2; c1 = (:- v1) :* v2 }))
+    (pair_mul ◌:+◌ ◌:*◌ :1 :1 (record { c0 = v0; c1 = v1 }) (record { c0 = (v0 :+ v1) :* v2; c1 = (:- v1) :* v2 }))
     (record { c0 = (v0 :* (v0 :+ v1) :- v1 :* v1) :* v2; c1 = :0 }) refl refl)
     ∙ ap (λ t. fe1024 t 𝟘) e

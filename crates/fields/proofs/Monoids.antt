@@ -1,24 +1,24 @@
--- Multiples and powers as values joined, and a turn of the walk by halves in any monoid. Assumes nothing.
+-- Multiples and powers as values joined, and a turn of the walk by halves in any monoid.
 use Rattle.std.proofs.Common.{◌≡◌, ℕ, zero, suc, ◌+◌, ◌/◌, ◌%◌, ◌⊎◌, sym, refl, ap, ◌∙◌, ap₂, inl, inr, zero-add, arith}
 use Rattle.algebra.specs.Field.{FieldOn, pow, multiple}
-use Rattle.fields.specs.Monoid.{MonoidLaws, repeated, sum_unit, sum_of, product_unit, product_of}
+use Rattle.fields.specs.Monoid.{IsMonoid, repeat, sum_unit, sum_of, product_unit, product_of}
 use Rattle.fields.specs.declared.monoid.Product.{Product}
 use Rattle.fields.specs.declared.monoid.Sum.{Sum}
 
 module _ {A : Type 0} (F : FieldOn A) where
-  pub repeated_sum : (x : Sum A) (n : ℕ) → (repeated (sum_unit F) (sum_of F) x n).0 ≡ multiple F x.0 n
+  pub repeated_sum : (x : Sum A) (n : ℕ) → (repeat (sum_unit F) (sum_of F) x n).0 ≡ multiple F x.0 n
   repeated_sum x zero = refl
   repeated_sum x (suc n) = ap (F.add x.0) (repeated_sum x n)
 
-  pub repeated_product : (x : Product A) (n : ℕ) → (repeated (product_unit F) (product_of F) x n).0 ≡ pow F x.0 n
+  pub repeated_product : (x : Product A) (n : ℕ) → (repeat (product_unit F) (product_of F) x n).0 ≡ pow F x.0 n
   repeated_product x zero = refl
   repeated_product x (suc n) = ap (F.mul x.0) (repeated_product x n)
 
-module _ {M : Type 0} {neutral : M} {op : M → M → M} (laws : MonoidLaws neutral op) where
+module _ {M : Type 0} {neutral : M} {op : M → M → M} (laws : IsMonoid neutral op) where
   open laws use {assoc}
 
   abbrev pub times : M → ℕ → M
-  times = repeated neutral op
+  times = repeat neutral op
 
   -- x joined to itself n times is x joined n + n times
   times_double : (x : M) (n : ℕ) → times (op x x) n ≡ times x (n + n)

@@ -1,7 +1,7 @@
--- Multiples where twice an element is ZERO: the parity decides. Assumes nothing.
+-- Multiples where twice an element is ZERO: the parity decides.
 use Rattle.std.proofs.Common.{◌≡◌, ℕ, zero, suc, ◌%◌, ◌<◌, ℤ, pos, negsuc, neg_ℤ, nat_abs, sym, refl, ap, ◌∙◌, arith, w64, of_z}
 use lib.Signed.{rem_z}
-use Rattle.algebra.specs.Field.{FieldOn, Doubling, multiple, multipleℤ}
+use Rattle.algebra.specs.Field.{FieldOn, HasCharacteristicTwo, multiple, int_multiple}
 use Rattle.algebra.proofs.Laws.{add_zero, neg_zero}
 
 -- the remainder's bits, as the code tests them, are 0 exactly for an even number
@@ -19,7 +19,7 @@ odd_bits (negsuc n) e = from (suc n % 2) e (omega arith) where
   from zero e h = absurd (e refl)
   from (suc m) e h = omega arith
 
-module _ {A : Type 0} (F : FieldOn A) (twice : Doubling F) (x : A) where
+module _ {A : Type 0} (F : FieldOn A) (twice : HasCharacteristicTwo F) (x : A) where
   multiple_parity : (n : ℕ) → multiple F x n ≡ multiple F x (n % 2)
   multiple_parity zero = refl
   multiple_parity (suc zero) = refl
@@ -39,10 +39,10 @@ module _ {A : Type 0} (F : FieldOn A) (twice : Doubling F) (x : A) where
   multiple_odd : (n : ℕ) → n % 2 ≡ 1 → multiple F x n ≡ x
   multiple_odd n h = multiple_parity n ∙ ap (multiple F x) h ∙ add_zero F x
 
-  pub multipleℤ_even : (n : ℤ) → nat_abs n % 2 ≡ 0 → multipleℤ F x n ≡ F.𝟘
+  pub multipleℤ_even : (n : ℤ) → nat_abs n % 2 ≡ 0 → int_multiple F x n ≡ F.𝟘
   multipleℤ_even (pos n) h = multiple_even n h
   multipleℤ_even (negsuc n) h = ap F.neg (multiple_even (suc n) h) ∙ neg_zero F
 
-  pub multipleℤ_odd : (n : ℤ) → nat_abs n % 2 ≡ 1 → multipleℤ F x n ≡ x
+  pub multipleℤ_odd : (n : ℤ) → nat_abs n % 2 ≡ 1 → int_multiple F x n ≡ x
   multipleℤ_odd (pos n) h = multiple_odd n h
   multipleℤ_odd (negsuc n) h = ap F.neg (multiple_odd (suc n) h) ∙ neg_same

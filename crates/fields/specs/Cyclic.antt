@@ -1,26 +1,26 @@
--- t generates the elements but ZERO, and an element plus itself is ZERO. Assumes nothing.
+-- t generates the elements but ZERO, and an element plus itself is ZERO.
 use Rattle.std.specs.Prelude.{◌≡◌, ℕ, zero, suc, ◌<◌, not, T, ◌==◌, refl}
 use Rattle.std.proofs.Common.{ap, sym, subst, ◌∙◌, arith, lit<}
 use Rattle.std.specs.Int.Bits.{xor_self}
-use Rattle.algebra.specs.Field.{Cyclic, Doubling, HasOrder, pow}
-use Rattle.fields.specs.Binary.{product, power}
-use Rattle.fields.specs.Every.{at}
+use Rattle.algebra.specs.Field.{IsCyclic, HasCharacteristicTwo, HasOrder, pow}
+use Rattle.fields.specs.Binary.{binary_product, binary_power}
+use Rattle.fields.specs.Every.{every_at}
 use Rattle.fields.specs.Gf32.{gf32, gf32_numbers, gf32_generator, fe_path}
 use Rattle.fields.specs.declared.gf32.Fe32.{Fe32}
 
 -- powers, on numbers
-pub pow_value : (x : Fe32) (n : ℕ) → (pow gf32 x n).value ≡ power x.value n
+pub pow_value : (x : Fe32) (n : ℕ) → (pow gf32 x n).value ≡ binary_power x.value n
 unfolding gf32
 pow_value x zero = refl
-pow_value x (suc n) = ap (product x.value) (pow_value x n)
+pow_value x (suc n) = ap (binary_product x.value) (pow_value x n)
 
-power_least : (k : ℕ) → 0 < k → k < 31 → ¬ (power 2 k ≡ 1)
-unfolding product
+power_least : (k : ℕ) → 0 < k → k < 31 → ¬ (binary_power 2 k ≡ 1)
+unfolding binary_product
 power_least zero p h e = omega arith
-power_least (suc k) p h e = subst (λ (n : ℕ). T (not (n == 1))) e (at 30 (λ x. not (power 2 (suc x) == 1)) tt k (omega arith))
+power_least (suc k) p h e = subst (λ (n : ℕ). T (not (n == 1))) e (every_at 30 (λ x. not (binary_power 2 (suc x) == 1)) tt k (omega arith))
 
-power_returns : power 2 31 ≡ 1
-unfolding product
+power_returns : binary_power 2 31 ≡ 1
+unfolding binary_product
 power_returns = refl
 
 pub t_has_order_31 : HasOrder gf32 gf32_generator 31
@@ -31,10 +31,10 @@ t_has_order_31 = record {
   least = λ k p h e. power_least k p h (sym (pow_value gf32_generator k) ∙ ap (λ (x : Fe32). x.value) e);
 }
 
-pub gf32_cyclic : Cyclic gf32 gf32_numbers gf32_generator 31
+pub gf32_cyclic : IsCyclic gf32 gf32_numbers gf32_generator 31
 unfolding gf32_numbers
 gf32_cyclic = record { order_is = refl; generates = t_has_order_31 }
 
-pub gf32_doubling : Doubling gf32
+pub gf32_characteristic_two : HasCharacteristicTwo gf32
 unfolding gf32
-gf32_doubling x = fe_path _ _ (xor_self x.value)
+gf32_characteristic_two x = fe_path _ _ (xor_self x.value)

@@ -1,4 +1,4 @@
--- GF(1024) over the struct itself, as pairs over GF(32) with ζ² = 1 + ζ. Assumes nothing.
+-- GF(1024) over the struct itself, as pairs over GF(32) with ζ² = 1 + ζ.
 --   gf1024           its operations with their laws
 --   fe1024_decides   a test of both parts tells whether two elements are one
 --   gf1024_numbers   c0 + c1 ζ has the number c0 + 32 c1
@@ -7,8 +7,8 @@
 use Rattle.std.specs.Prelude.{◌≡◌, ◌+◌, ◌*◌, ◌/◌, ◌%◌, ◌==◌, ◌&&◌, refl, Decides}
 use Rattle.std.proofs.Common.{ap, ap₂, ◌∙◌, arith, lit<, lit≤}
 use Rattle.std.proofs.lemmas.Bool.Decides.{Decides-and, Decides-like}
-use Rattle.algebra.specs.Field.{FieldOn, Numbers}
-use Rattle.algebra.specs.Pair.{Pair, both, plus, times, quotient}
+use Rattle.algebra.specs.Field.{FieldOn, Enumeration}
+use Rattle.algebra.specs.Pair.{Pair, both, pair_add, pair_mul, quotient}
 use Rattle.algebra.proofs.Quadratic.{quadratic}
 use Rattle.algebra.proofs.Carried.{carried}
 use Rattle.fields.specs.Gf32.{gf32, gf32_numbers, fe, fe_decides}
@@ -37,11 +37,11 @@ gf1024 =
     record {
       𝟘 = fe1024 gf32.𝟘 gf32.𝟘;
       𝟙 = fe1024 gf32.𝟙 gf32.𝟘;
-      add = λ x y. of_pair (plus gf32.add gf32.mul (pair x) (pair y));
-      mul = λ x y. of_pair (times gf32.add gf32.mul gf32.𝟙 gf32.𝟙 (pair x) (pair y));
+      add = λ x y. of_pair (pair_add gf32.add gf32.mul (pair x) (pair y));
+      mul = λ x y. of_pair (pair_mul gf32.add gf32.mul gf32.𝟙 gf32.𝟙 (pair x) (pair y));
       neg = λ x. of_pair (both gf32.neg (pair x));
       inv = λ x. of_pair (quotient gf32 gf32.𝟙 gf32.𝟙 (pair x));
-      discrete = laws.discrete;
+      dec_eq = laws.dec_eq;
       add_assoc = laws.add_assoc;
       add_comm = laws.add_comm;
       zero_add = laws.zero_add;
@@ -54,7 +54,7 @@ gf1024 =
       one_ne_zero = laws.one_ne_zero;
     }
 
-unfoldable pub gf1024_numbers : Numbers Fe1024
+unfoldable pub gf1024_numbers : Enumeration Fe1024
 unfolding gf32_numbers
 gf1024_numbers =
     let N = gf32_numbers in

@@ -1,4 +1,4 @@
--- GF(32) over the struct itself: its operations with their laws, its numbers, a generator of its elements but ZERO. Assumes nothing.
+-- GF(32) over the struct itself: its operations with their laws, its numbers, a generator of its elements but ZERO.
 use Rattle.std.specs.Prelude.{◌≡◌, ℕ, ◌%◌, ◌<◌, ◌==◌, bit_xor, Decides}
 use Rattle.std.proofs.Common.{ap, mod-lt, mod-eq_of_lt, arith, lit<, lit≤}
 use mathlib.Core.HLevel.{is_prop→PathP}
@@ -7,8 +7,8 @@ use Rattle.std.proofs.Math.Decide.{ℕ_discrete}
 use Rattle.std.proofs.lemmas.Nat.{xor_lt, xor_comm}
 use Rattle.std.proofs.lemmas.Bool.Decides.{Decides-eqb, Decides-like}
 use Rattle.std.specs.Int.Bits.{xor_assoc, xor_zero_l, xor_self}
-use Rattle.algebra.specs.Field.{FieldOn, Numbers}
-use Rattle.fields.specs.Binary.{product, power}
+use Rattle.algebra.specs.Field.{FieldOn, Enumeration}
+use Rattle.fields.specs.Binary.{binary_product, binary_power}
 use Rattle.fields.specs.BinaryLaws.{product_lt, product_comm, product_assoc, product_add, one_product, power_30_lt, power_31}
 use Rattle.fields.specs.declared.gf32.Fe32.{Fe32}
 
@@ -19,8 +19,8 @@ fe n h = record { value = n; ok = h }
 pub fe_path : (x y : Fe32) → x.value ≡ y.value → x ≡ y
 fe_path x y e = λ i. record { value = e i; ok = is_prop→PathP (λ j. e j < 32) (λ j. le_prop) x.ok y.ok i }
 
-unfoldable pub fe_discrete : (x y : Fe32) → Dec (x ≡ y)
-fe_discrete x y = elim (ℕ_discrete x.value y.value) [ yes e ↦ yes (fe_path x y e) | no e ↦ no (λ p. e (ap (λ z. z.value) p)) ]
+unfoldable pub fe_dec_eq : (x y : Fe32) → Dec (x ≡ y)
+fe_dec_eq x y = elim (ℕ_discrete x.value y.value) [ yes e ↦ yes (fe_path x y e) | no e ↦ no (λ p. e (ap (λ z. z.value) p)) ]
 
 -- a test of the two numbers tells whether the elements are one
 pub fe_decides : (x y : Fe32) → Decides (x.value == y.value) (x ≡ y)
@@ -32,10 +32,10 @@ gf32 = record {
   𝟘 = fe 0 (lit< tt);
   𝟙 = fe 1 (lit< tt);
   add = λ x y. fe (bit_xor x.value y.value) (xor_lt 5 x.value y.value x.ok y.ok);
-  mul = λ x y. fe (product x.value y.value) (product_lt x.value y.value x.ok y.ok);
+  mul = λ x y. fe (binary_product x.value y.value) (product_lt x.value y.value x.ok y.ok);
   neg = λ x. x;
-  inv = λ x. fe (power x.value 30) (power_30_lt x.value x.ok);
-  discrete = fe_discrete;
+  inv = λ x. fe (binary_power x.value 30) (power_30_lt x.value x.ok);
+  dec_eq = fe_dec_eq;
   add_assoc = λ x y z. fe_path _ _ (xor_assoc x.value y.value z.value);
   add_comm = λ x y. fe_path _ _ (xor_comm x.value y.value);
   zero_add = λ x. fe_path _ _ (xor_zero_l x.value);
@@ -48,7 +48,7 @@ gf32 = record {
   one_ne_zero = λ e. let z : ◌≡◌ {A = ℕ} 1 0 = ap (λ (x : Fe32). x.value) e in omega arith;
 }
 
-unfoldable pub gf32_numbers : Numbers Fe32
+unfoldable pub gf32_numbers : Enumeration Fe32
 gf32_numbers = record {
   size = 32;
   number = λ x. x.value;

@@ -1,4 +1,4 @@
--- GF(32768) over the struct itself, as triples over GF(32) with ζ³ = 1 + ζ. Assumes nothing.
+-- GF(32768) over the struct itself, as triples over GF(32) with ζ³ = 1 + ζ.
 --   gf32768           its operations with their laws
 --   fe32768_decides   a test of the three parts tells whether two elements are one
 --   gf32768_numbers   c0 + c1 ζ + c2 ζ² has the number c0 + 32 c1 + 1024 c2
@@ -7,8 +7,8 @@
 use Rattle.std.specs.Prelude.{◌≡◌, ℕ, ◌+◌, ◌*◌, ◌/◌, ◌%◌, ◌==◌, ◌&&◌, refl, Decides}
 use Rattle.std.proofs.Common.{ap, ◌∙◌, arith, lit<, lit≤}
 use Rattle.std.proofs.lemmas.Bool.Decides.{Decides-and, Decides-like}
-use Rattle.algebra.specs.Field.{FieldOn, Numbers}
-use Rattle.algebra.specs.Triple.{Triple, each, plus, times, inverse}
+use Rattle.algebra.specs.Field.{FieldOn, Enumeration}
+use Rattle.algebra.specs.Triple.{Triple, each, triple_add, triple_mul, inverse}
 use Rattle.algebra.proofs.Cubic.{cubic}
 use Rattle.algebra.proofs.Carried.{carried}
 use Rattle.fields.specs.Gf32.{gf32, gf32_numbers, fe, fe_decides}
@@ -41,11 +41,11 @@ gf32768 =
     record {
       𝟘 = fe32768 gf32.𝟘 gf32.𝟘 gf32.𝟘;
       𝟙 = fe32768 gf32.𝟙 gf32.𝟘 gf32.𝟘;
-      add = λ x y. of_triple (plus gf32.add gf32.mul (triple x) (triple y));
-      mul = λ x y. of_triple (times gf32.add gf32.mul (triple x) (triple y));
+      add = λ x y. of_triple (triple_add gf32.add gf32.mul (triple x) (triple y));
+      mul = λ x y. of_triple (triple_mul gf32.add gf32.mul (triple x) (triple y));
       neg = λ x. of_triple (each gf32.neg (triple x));
-      inv = λ x. of_triple (inverse gf32 (triple x) (gf32.discrete x.c2 gf32.𝟘));
-      discrete = laws.discrete;
+      inv = λ x. of_triple (inverse gf32 (triple x) (gf32.dec_eq x.c2 gf32.𝟘));
+      dec_eq = laws.dec_eq;
       add_assoc = laws.add_assoc;
       add_comm = laws.add_comm;
       zero_add = laws.zero_add;
@@ -58,7 +58,7 @@ gf32768 =
       one_ne_zero = laws.one_ne_zero;
     }
 
-unfoldable pub gf32768_numbers : Numbers Fe32768
+unfoldable pub gf32768_numbers : Enumeration Fe32768
 unfolding gf32_numbers
 gf32768_numbers =
     let N = gf32_numbers in

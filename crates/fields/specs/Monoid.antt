@@ -1,5 +1,5 @@
--- What a monoid is, its values joined to themselves, and the two monoids of a field. Assumes nothing.
---   MonoidLaws neutral op   op may be grouped in any way, and the neutral value changes no other
+-- What a monoid is, its values joined to themselves, and the two monoids of a field.
+--   IsMonoid neutral op     op may be grouped in any way, and the neutral value changes no other
 --   repeated neutral op x n x joined n times
 use Rattle.std.specs.Prelude.{◌≡◌, ℕ, zero, suc}
 use Rattle.std.proofs.Common.{ap}
@@ -8,14 +8,14 @@ use Rattle.algebra.proofs.Laws.{add_zero, mul_one}
 use Rattle.fields.specs.declared.monoid.Product.{Product}
 use Rattle.fields.specs.declared.monoid.Sum.{Sum}
 
-pub record MonoidLaws {M : Type 0} (neutral : M) (op : M → M → M) : Type 0 where
+pub record IsMonoid {M : Type 0} (neutral : M) (op : M → M → M) : Type 0 where
   pub left_neutral : (x : M) → op neutral x ≡ x
   pub right_neutral : (x : M) → op x neutral ≡ x
   pub assoc : (x y z : M) → op (op x y) z ≡ op x (op y z)
 
-abbrev pub repeated : {M : Type 0} → M → (M → M → M) → M → ℕ → M
-repeated neutral op x zero = neutral
-repeated neutral op x (suc n) = op x (repeated neutral op x n)
+abbrev pub repeat : {M : Type 0} → M → (M → M → M) → M → ℕ → M
+repeat neutral op x zero = neutral
+repeat neutral op x (suc n) = op x (repeat neutral op x n)
 
 abbrev as_sum : {A : Type 0} → A → Sum A
 as_sum x = record { 0 = x }
@@ -30,7 +30,7 @@ module _ {A : Type 0} (F : FieldOn A) where
   abbrev pub sum_of : Sum A → Sum A → Sum A
   sum_of x y = as_sum (F.add x.0 y.0)
 
-  pub sum_laws : MonoidLaws sum_unit sum_of
+  pub sum_laws : IsMonoid sum_unit sum_of
   sum_laws = record {
     left_neutral = λ x. ap as_sum (F.zero_add x.0);
     right_neutral = λ x. ap as_sum (add_zero F x.0);
@@ -43,7 +43,7 @@ module _ {A : Type 0} (F : FieldOn A) where
   abbrev pub product_of : Product A → Product A → Product A
   product_of x y = as_product (F.mul x.0 y.0)
 
-  pub product_laws : MonoidLaws product_unit product_of
+  pub product_laws : IsMonoid product_unit product_of
   product_laws = record {
     left_neutral = λ x. ap as_product (F.one_mul x.0);
     right_neutral = λ x. ap as_product (mul_one F x.0);

@@ -1,11 +1,11 @@
 // Differences, quotients and multiples in any field, from the methods of its interface.
 ghost use Rattle.std.specs.Prelude.{◌≡◌};
-ghost use Rattle.algebra.specs.Field.{multiple, multipleℤ};
-ghost use Rattle.fields.specs.Powers.{divided};
+ghost use Rattle.algebra.specs.Field.{multiple, int_multiple};
+ghost use Rattle.fields.specs.Powers.{quotient};
 
 use crate::fault::FieldFault;
 use crate::field::Field;
-use crate::monoid::{Sum, repeated};
+use crate::monoid::{Sum, repeat};
 
 /// a - b.
 pub fn difference<F: Field>(a: F, b: F) -> F
@@ -16,7 +16,7 @@ pub fn difference<F: Field>(a: F, b: F) -> F
 
 /// a / b, refused if b is ZERO.
 pub fn quotient<F: Field>(a: F, b: F) -> Result<F, FieldFault>
-    ensures { result ≡ divided F.field a b }
+    ensures { result ≡ quotient F.field a b }
 {
     Ok(a.mul(b.multiplicative_inverse()?))
 }
@@ -26,12 +26,12 @@ pub fn quotient<F: Field>(a: F, b: F) -> Result<F, FieldFault>
 pub fn multiple<F: Field>(x: F, n: usize) -> F
     ensures { result ≡ multiple F.field x n }
 {
-    repeated(Sum(x), n).0
+    repeat(Sum(x), n).0
 }
 
 /// n times x. Twice an element is ZERO, so that only n's last bit counts.
 pub fn muli<F: Field>(x: F, n: i64) -> F
-    ensures { result ≡ multipleℤ F.field x n }
+    ensures { result ≡ int_multiple F.field x n }
 {
     if n % 2 == 0 { F::ZERO } else { x }
 }

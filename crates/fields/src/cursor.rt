@@ -2,7 +2,7 @@
 ghost use Rattle.std.specs.Prelude.{◌≡◌, ℕ, suc, ◌+◌, drop};
 ghost use Rattle.std.specs.Iterator.{YieldsFirst, item_count};
 ghost use Rattle.std.specs.List.{slice_get as item};
-ghost use Rattle.fields.specs.Cursors.{ahead, coming};
+ghost use Rattle.fields.specs.Cursors.{power_ahead, remaining_powers};
 
 use crate::field::Field;
 use crate::powers::by_squaring;
@@ -18,8 +18,8 @@ pub struct Powers<F> {
 impl<F: Field> Powers<F> {
     /// The next power.
     pub fn next(&mut self) -> F
-        ensures answer { result ≡ ahead F.field self.old 0 }
-        ensures rest { (k : ℕ) → ahead F.field self.new k ≡ ahead F.field self.old (suc k) }
+        ensures answer { result ≡ power_ahead F.field self.old 0 }
+        ensures rest { (k : ℕ) → power_ahead F.field self.new k ≡ power_ahead F.field self.old (suc k) }
     {
         let power = self.next;
         self.next = power.mul(self.base);
@@ -28,15 +28,15 @@ impl<F: Field> Powers<F> {
 
     // Skips n powers.
     fn skip(&mut self, n: usize)
-        ensures { (k : ℕ) → ahead F.field self.new k ≡ ahead F.field self.old (n + k) }
+        ensures { (k : ℕ) → power_ahead F.field self.new k ≡ power_ahead F.field self.old (n + k) }
     {
         self.next = self.next.mul(by_squaring(self.base, n));
     }
 
     /// The power after n others, which are skipped.
     pub fn nth(&mut self, n: usize) -> F
-        ensures answer { result ≡ ahead F.field self.old n }
-        ensures rest { (k : ℕ) → ahead F.field self.new k ≡ ahead F.field self.old (n + suc k) }
+        ensures answer { result ≡ power_ahead F.field self.old n }
+        ensures rest { (k : ℕ) → power_ahead F.field self.new k ≡ power_ahead F.field self.old (n + suc k) }
     {
         self.skip(n);
         self.next()
@@ -54,9 +54,9 @@ pub struct PowersRange<F> {
 impl<F: Field> Iterator for PowersRange<F> {
     type Item = F;
 
-    ghost next_gives = { YieldsFirst (coming F.field) };
+    ghost next_gives = { YieldsFirst (remaining_powers F.field) };
 
-    ghost remaining = { item_count (coming F.field) };
+    ghost remaining = { item_count (remaining_powers F.field) };
 
     fn next(&mut self) -> Option<F> {
         let after = self.after?;
@@ -69,8 +69,8 @@ impl<F: Field> PowersRange<F> {
     /// The power after n others, which are skipped; none past the last. Unlike an iterator's own `nth`, it takes no step
     /// for each of them.
     pub fn nth(&mut self, n: usize) -> Option<F>
-        ensures answer { result ≡ item (coming F.field self.old) n }
-        ensures rest { coming F.field self.new ≡ drop (n + 1) (coming F.field self.old) }
+        ensures answer { result ≡ item (remaining_powers F.field self.old) n }
+        ensures rest { remaining_powers F.field self.new ≡ drop (n + 1) (remaining_powers F.field self.old) }
     {
         self.after = self.after?.checked_sub(n);
         self.powers.skip(n);

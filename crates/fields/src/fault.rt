@@ -1,7 +1,7 @@
 // Refusals. Each has a number, the layer that refuses and a place; each layer has an enum of its own, and one definition
 // in specs/ says what each of its cases tells.
 ghost use Rattle.std.specs.Prelude.{◌≡◌};
-ghost use Rattle.fields.specs.Faults.{told};
+ghost use Rattle.fields.specs.Faults.{field_refusal};
 
 /// The part of the box that refuses.
 #[derive(Clone, Copy, PartialEq, Eq, Debug)]
@@ -34,7 +34,7 @@ pub enum FieldFault {
 
 /// What the field's refusal tells.
 impl From<FieldFault> for Refusal {
-    ghost from_gives = { λ fault r. r ≡ told fault };
+    ghost from_gives = { λ fault r. r ≡ field_refusal fault };
 
     fn from(fault: FieldFault) -> Refusal {
         match fault {

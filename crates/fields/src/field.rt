@@ -3,8 +3,8 @@
 ghost use denote.Param.{layout};
 ghost use Rattle.std.specs.Prelude.{◌≡◌, ℕ, ◌≤◌, ◌^◌, Bool, Decides};
 ghost use prog.Memory.{size};
-ghost use Rattle.algebra.specs.Field.{FieldOn, Numbers, Cyclic, divisors_to, Doubling, Lifts, Drops};
-ghost use Rattle.fields.specs.Elements.{inverse, numbered};
+ghost use Rattle.algebra.specs.Field.{FieldOn, Enumeration, IsCyclic, divisors_to, HasCharacteristicTwo, IsEmbedding, Drops};
+ghost use Rattle.fields.specs.Elements.{inverse, from_number};
 
 use crate::fault::FieldFault;
 
@@ -15,7 +15,7 @@ pub trait Field: Copy + PartialEq {
     ghost field: { FieldOn Self };
 
     // The whole number that each element stands for.
-    ghost numbers: { Numbers Self };
+    ghost numbers: { Enumeration Self };
 
     ghost ZERO: { Self };
 
@@ -57,7 +57,7 @@ pub trait Field: Copy + PartialEq {
 
     /// The element that stands for a number, none from the size on.
     fn from_number(number: u16) -> Option<Self>
-        ensures { result ≡ numbered numbers number };
+        ensures { result ≡ from_number numbers number };
 
     /// An element takes little memory, so that generic code can own an array of elements.
     fn small()
@@ -67,10 +67,10 @@ pub trait Field: Copy + PartialEq {
 
     ghost one_is: { ONE ≡ field.𝟙 };
 
-    ghost cyclic: { Cyclic field numbers GENERATOR MULTIPLICATIVE_ORDER };
+    ghost cyclic: { IsCyclic field numbers GENERATOR MULTIPLICATIVE_ORDER };
 
     // The characteristic is 2. Nothing but what is said of multiples rests on this law.
-    ghost doubling: { Doubling field };
+    ghost characteristic_two: { HasCharacteristicTwo field };
 
     ghost equality: { (x y : Self) (b : Bool) → (b ≡ Self.PartialEq.eq x y) → Decides b (x ≡ y) };
 }
@@ -90,5 +90,5 @@ pub trait ExtensionField: Field {
 
     /// Lifting keeps sums and products, and no two elements lift to one.
     fn lift_laws()
-        ensures { Lifts Self.BaseField.field Self.field lifted };
+        ensures { IsEmbedding Self.BaseField.field Self.field lifted };
 }

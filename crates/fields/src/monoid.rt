@@ -1,7 +1,7 @@
 // Monoids: values with an operation that may be grouped in any way. The sum and the product of a field are two, and one
 // walk answers the multiples of the one and the powers of the other.
 ghost use Rattle.std.specs.Prelude.{◌≡◌};
-ghost use Rattle.fields.specs.Monoid.{MonoidLaws, repeated, sum_unit, sum_of, sum_laws, product_unit, product_of, product_laws};
+ghost use Rattle.fields.specs.Monoid.{IsMonoid, repeat, sum_unit, sum_of, sum_laws, product_unit, product_of, product_laws};
 
 use crate::field::Field;
 
@@ -11,7 +11,7 @@ pub trait Monoid: Copy {
 
     ghost op: { Self → Self → Self };
 
-    ghost laws: { MonoidLaws neutral op };
+    ghost laws: { IsMonoid neutral op };
 
     fn unit() -> Self
         ensures { result ≡ neutral };
@@ -61,8 +61,8 @@ impl<F: Field> Monoid for Product<F> {
 }
 
 /// x joined n times, by doubling x while the count is halved.
-pub fn repeated<M: Monoid>(x: M, n: usize) -> M
-    ensures { result ≡ repeated M.neutral M.op x n }
+pub fn repeat<M: Monoid>(x: M, n: usize) -> M
+    ensures { result ≡ repeat M.neutral M.op x n }
 {
     let mut result = M::unit();
     let mut doubled = x;

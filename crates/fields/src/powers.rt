@@ -2,20 +2,20 @@
 ghost use Rattle.std.specs.Prelude.{◌≡◌, ℕ, ◌+◌, ◌-◌};
 ghost use Rattle.algebra.specs.Field.{pow};
 ghost use Rattle.algebra.specs.Poly.{tab};
-ghost use Rattle.fields.specs.Cursors.{ahead, coming};
-ghost use Rattle.fields.specs.Powers.{inverse_power, power, Ordered};
+ghost use Rattle.fields.specs.Cursors.{power_ahead, remaining_powers};
+ghost use Rattle.fields.specs.Powers.{inverse_power, powi, IsOrderOf};
 
 use crate::cursor::{Powers, PowersRange};
 use crate::fault::FieldFault;
 use crate::field::Field;
-use crate::monoid::{Product, repeated};
+use crate::monoid::{Product, repeat};
 
 // x to the power n: to double among products is to square.
 #[tactic(auto, using(crate::proofs::Monoids::repeated_product))]
 pub(crate) fn by_squaring<F: Field>(x: F, n: usize) -> F
     ensures { result ≡ pow F.field x n }
 {
-    repeated(Product(x), n).0
+    repeat(Product(x), n).0
 }
 
 // The inverse's power, refused for ZERO.
@@ -27,7 +27,7 @@ fn inverse_power<F: Field>(x: F, n: usize) -> Result<F, FieldFault>
 
 /// x to the power n: ONE for the exponent 0, and the inverse's power for a negative one.
 pub fn powi<F: Field>(x: F, n: i64) -> Result<F, FieldFault>
-    ensures { result ≡ power F.field x n }
+    ensures { result ≡ powi F.field x n }
 {
     if n == i64::MIN {
         Err(FieldFault::Exponent)
@@ -40,7 +40,7 @@ pub fn powi<F: Field>(x: F, n: i64) -> Result<F, FieldFault>
 
 /// The least positive exponent at which x's power is ONE: the first such divisor of the field's order. ZERO has none.
 pub fn multiplicative_order<F: Field>(x: F) -> Result<usize, FieldFault>
-    ensures { Ordered F.field x result }
+    ensures { IsOrderOf F.field x result }
 {
     if x == F::ZERO {
         return Err(FieldFault::Zero);
@@ -57,7 +57,7 @@ pub fn multiplicative_order<F: Field>(x: F) -> Result<usize, FieldFault>
 
 /// The powers of x, from ONE on.
 pub fn powers<F: Field>(x: F) -> Powers<F>
-    ensures { (k : ℕ) → ahead F.field result k ≡ pow F.field x k }
+    ensures { (k : ℕ) → power_ahead F.field result k ≡ pow F.field x k }
 {
     Powers {
         base: x,
@@ -67,7 +67,7 @@ pub fn powers<F: Field>(x: F) -> Powers<F>
 
 /// The powers of x from the first exponent to the last; none if the first is above the last.
 pub fn powers_range<F: Field>(x: F, first: usize, last: usize) -> PowersRange<F>
-    ensures { coming F.field result ≡ tab (last + 1 - first) (λ k. pow F.field x (first + k)) }
+    ensures { remaining_powers F.field result ≡ tab (last + 1 - first) (λ k. pow F.field x (first + k)) }
 {
     PowersRange {
         powers: Powers {

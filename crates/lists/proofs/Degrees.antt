@@ -1,4 +1,4 @@
--- The degree of a list, by what a search from its end finds. Assumes nothing.
+-- The degree of a list, by what a search from its end finds.
 use Rattle.std.proofs.Common.{◌≡◌, ℕ, zero, suc, ◌-◌, ◌<◌, ◌≤◌, Bool, true, false, Decides, List, [], ◌∷◌, length, Option, None, Some, MatchOption, unwrap_or, sym, refl, ap, ◌∙◌, inl, inr, arith}
 use Rattle.std.proofs.lemmas.Bool.{cases_lt, false≢true}
 use Rattle.std.proofs.lemmas.Option.{slice_get-get_or}
@@ -8,21 +8,21 @@ use Rattle.algebra.specs.Field.{FieldOn, multiple}
 use Rattle.algebra.specs.Poly.{coeff}
 use Rattle.algebra.proofs.Poly.{coeff_high}
 use Rattle.algebra.proofs.Tab.{length_tab}
-use Rattle.lists.specs.Faults.{asked}
+use Rattle.lists.specs.Faults.{unless_empty}
 use Rattle.lists.specs.declared.fault.ListFault.TheVariants.{Empty}
 use Rattle.lists.proofs.Filled.{asked_some}
-use Rattle.lists.specs.Lists.{highest, degree, leading, derivative}
+use Rattle.lists.specs.Lists.{highest, degree, leading_term, formal_derivative}
 
 module _ {A : Type 0} (F : FieldOn A) (p : List A) where
   highest_zero : (n : ℕ) → coeff F p (suc n) ≡ F.𝟘 → highest F p (suc n) ≡ highest F p n
-  highest_zero n e = by (F.discrete (coeff F p (suc n)) F.𝟘)
+  highest_zero n e = by (F.dec_eq (coeff F p (suc n)) F.𝟘)
     where
       by : (d : Dec (coeff F p (suc n) ≡ F.𝟘)) → elim d [ yes _ ↦ highest F p n | no _ ↦ suc n ] ≡ highest F p n
       by (yes _) = refl
       by (no h) = absurd (h e)
 
   highest_other : (n : ℕ) → ¬ (coeff F p (suc n) ≡ F.𝟘) → highest F p (suc n) ≡ suc n
-  highest_other n h = by (F.discrete (coeff F p (suc n)) F.𝟘)
+  highest_other n h = by (F.dec_eq (coeff F p (suc n)) F.𝟘)
     where
       by : (d : Dec (coeff F p (suc n) ≡ F.𝟘)) → elim d [ yes _ ↦ highest F p n | no _ ↦ suc n ] ≡ suc n
       by (yes e) = absurd (h e)
@@ -38,7 +38,7 @@ module _ {A : Type 0} (F : FieldOn A) (p : List A) where
 
   highest_below : (n : ℕ) → highest F p n ≤ length p - 1
   highest_below zero = omega arith
-  highest_below (suc n) = by (F.discrete (coeff F p (suc n)) F.𝟘) (highest_below n)
+  highest_below (suc n) = by (F.dec_eq (coeff F p (suc n)) F.𝟘) (highest_below n)
     where
       by : (d : Dec (coeff F p (suc n) ≡ F.𝟘)) → highest F p n ≤ length p - 1 → elim d [ yes _ ↦ highest F p n | no _ ↦ suc n ] ≤ length p - 1
       by (yes _) h = h
@@ -67,12 +67,12 @@ module _ {A : Type 0} (F : FieldOn A) (p : List A) where
   abbrev pub derived : ℕ → A
   derived i = multiple F (coeff F p (suc i)) (suc i)
 
-  pub length_derivative : degree F p ≡ length (derivative F p)
+  pub length_derivative : degree F p ≡ length (formal_derivative F p)
   length_derivative = sym (length_tab (degree F p) derived)
 
 -- the entry at the degree, which only the empty list lacks
-pub leading_found : {A : Type 0} (F : FieldOn A) (p : List A) → ok_or (slice_get p (degree F p)) Empty ≡ asked (length p) (leading F p)
+pub leading_found : {A : Type 0} (F : FieldOn A) (p : List A) → ok_or (slice_get p (degree F p)) Empty ≡ unless_empty (length p) (leading_term F p)
 leading_found F [] = refl
 leading_found F (a ∷ p) =
     let below = degree_below F (a ∷ p) in
-    ap (λ o. ok_or o Empty) (slice_get-get_or (a ∷ p) (degree F (a ∷ p)) F.𝟘 (omega arith)) ∙ asked_some (length (a ∷ p)) (leading F (a ∷ p)) (omega arith)
+    ap (λ o. ok_or o Empty) (slice_get-get_or (a ∷ p) (degree F (a ∷ p)) F.𝟘 (omega arith)) ∙ asked_some (length (a ∷ p)) (leading_term F (a ∷ p)) (omega arith)

@@ -1,4 +1,4 @@
--- Lists that a loop fills from the front, and what a call that fills one answers. Assumes nothing.
+-- Lists that a loop fills from the front, and what a call that fills one answers.
 use Rattle.std.proofs.Common.{◌≡◌, ℕ, zero, suc, ◌+◌, ◌-◌, ◌<◌, ◌≤◌, cond, eqb, ltb, List, [], ◌∷◌, ◌++◌, length, get_or, drop, set, replicate, IsErrAnd, Ok, Err, Result, sym, refl, ap, ◌∙◌, ap₂, subst, append_assoc, append-nil, add-one, arith}
 use Rattle.std.proofs.lemmas.List.{get_or-append_right, get_or-drop, length-set, set_at, drop_more, drop_all}
 use Rattle.std.proofs.lemmas.Bool.{ne_eqb, lt-ltb, le-ltb, cond-true, cond-false}
@@ -6,7 +6,7 @@ use Rattle.std.proofs.lemmas.Result.{err_from_is_err_and}
 use Rattle.std.specs.List.{FoldsTo}
 use Rattle.algebra.specs.Poly.{tab}
 use Rattle.algebra.proofs.Tab.{length_tab}
-use Rattle.lists.specs.Faults.{asked, admitted, placed, count, written}
+use Rattle.lists.specs.Faults.{unless_empty, admit, lent_after, answer_count, answer_list}
 use Rattle.lists.specs.declared.fault.ListFault.{ListFault}
 use Rattle.lists.specs.declared.fault.ListFault.TheVariants.{Empty, Short}
 
@@ -47,23 +47,23 @@ module _ {A : Type 0} (f : ℕ → A) (e : List A) where
         ∙ get_or-drop j e (l - j) d ∙ ap (λ i. get_or e i d) z
 
 -- a call that writes the list `new` at the front of `old`, its lengths as the code has them
-module _ {A : Type 0} (given : ℕ) (new old : List A) (r : Result ℕ ListFault) (m n : ℕ) (is : r ≡ admitted m n (length old)) (given_is : m ≡ given) (size : n ≡ length new) where
-  count_is : r ≡ count given new old
-  count_is = is ∙ ap₂ (λ k l. admitted k l (length old)) given_is size
+module _ {A : Type 0} (given : ℕ) (new old : List A) (r : Result ℕ ListFault) (m n : ℕ) (is : r ≡ admit m n (length old)) (given_is : m ≡ given) (size : n ≡ length new) where
+  count_is : r ≡ answer_count given new old
+  count_is = is ∙ ap₂ (λ k l. admit k l (length old)) given_is size
 
   -- the exit of a `?`
   module _ (e : ListFault) (was : r ≡ Err e) where
-    pub refuses : (res : Result ℕ ListFault) → IsErrAnd res (λ y. y ≡ e) → res ≡ count given new old
+    pub refuses : (res : Result ℕ ListFault) → IsErrAnd res (λ y. y ≡ e) → res ≡ answer_count given new old
     refuses res by = let p = err_from_is_err_and res by in p.1 ∙ ap Err p.2 ∙ sym was ∙ count_is
 
-    pub refuses_list : old ≡ written given new old
-    refuses_list = ap (λ t. placed t new old) (sym was ∙ count_is)
+    pub refuses_list : old ≡ answer_list given new old
+    refuses_list = ap (λ t. lent_after t new old) (sym was ∙ count_is)
 
-  pub accepts : (j : ℕ) → r ≡ Ok j → Ok j ≡ count given new old
+  pub accepts : (j : ℕ) → r ≡ Ok j → Ok j ≡ answer_count given new old
   accepts j was = sym was ∙ count_is
 
-  pub accepts_list : (j : ℕ) (w : List A) → r ≡ Ok j → w ≡ new ++ drop j old → w ≡ written given new old
-  accepts_list j w was e = e ∙ ap (λ t. placed t new old) (accepts j was)
+  pub accepts_list : (j : ℕ) (w : List A) → r ≡ Ok j → w ≡ new ++ drop j old → w ≡ answer_list given new old
+  accepts_list j w was e = e ∙ ap (λ t. lent_after t new old) (accepts j was)
 
 -- a list that is filled is the list that its terms are
 pub filled_all : {A : Type 0} (f : ℕ → A) (j n : ℕ) (new old w : List A) → j ≡ n → tab n f ≡ new → Filled f j old w → w ≡ new ++ drop n old
@@ -82,23 +82,23 @@ filled_with step f x each (y ∷ w) last ran =
     let once = each y ran.0 ran.1 in
     ap₂ ◌∷◌ once.0 (filled_with step f x each w last (subst (λ h. FoldsTo step h w last) once.1 ran.2))
 
-pub asked_some : {X : Type 0} (given : ℕ) (x : X) → 0 < given → Ok x ≡ asked given x
+pub asked_some : {X : Type 0} (given : ℕ) (x : X) → 0 < given → Ok x ≡ unless_empty given x
 asked_some given x h = sym (cond-false (eqb given 0) (Err Empty) (Ok x) (ne_eqb given 0 (λ e. omega arith)))
 
 -- a call that is given lists, by the room for its answer
 module _ {A : Type 0} (given : ℕ) (new old : List A) (some : 0 < given) where
-  admitted_some : admitted given (length new) (length old) ≡ cond (ltb (length old) (length new)) (Err Short) (Ok (length new))
+  admitted_some : admit given (length new) (length old) ≡ cond (ltb (length old) (length new)) (Err Short) (Ok (length new))
   admitted_some = cond-false (eqb given 0) (Err Empty) (cond (ltb (length old) (length new)) (Err Short) (Ok (length new))) (ne_eqb given 0 (λ e. omega arith))
 
-  pub count_short : length old < length new → Err Short ≡ count given new old
+  pub count_short : length old < length new → Err Short ≡ answer_count given new old
   count_short h = sym (admitted_some ∙ cond-true (ltb (length old) (length new)) (Err Short) (Ok (length new)) (lt-ltb (length old) (length new) h))
 
-  pub written_short : length old < length new → old ≡ written given new old
-  written_short h = ap (λ t. placed t new old) (count_short h)
+  pub written_short : length old < length new → old ≡ answer_list given new old
+  written_short h = ap (λ t. lent_after t new old) (count_short h)
 
   module _ (room : length new ≤ length old) (n : ℕ) (size : n ≡ length new) where
-    pub count_room : Ok n ≡ count given new old
+    pub count_room : Ok n ≡ answer_count given new old
     count_room = ap Ok size ∙ sym (admitted_some ∙ cond-false (ltb (length old) (length new)) (Err Short) (Ok (length new)) (le-ltb (length old) (length new) room))
 
-    pub written_room : (w : List A) → w ≡ new ++ drop n old → w ≡ written given new old
-    written_room w e = e ∙ ap (λ t. placed t new old) count_room
+    pub written_room : (w : List A) → w ≡ new ++ drop n old → w ≡ answer_list given new old
+    written_room w e = e ∙ ap (λ t. lent_after t new old) count_room

@@ -1,4 +1,4 @@
--- The front of a list, filled by a loop over it. Assumes nothing.
+-- The front of a list, filled by a loop over it.
 use Rattle.std.proofs.Common.{◌≡◌, ℕ, ◌≤◌, List, ◌++◌, length, take, drop, ap, ◌∙◌, append-nil, arith}
 use Rattle.std.proofs.lemmas.List.{drop_all, length-take-le}
 use Rattle.algebra.specs.Poly.{tab}

@@ -1,4 +1,4 @@
--- Sums and differences entry by entry. Assumes nothing.
+-- Sums and differences entry by entry.
 use Rattle.std.proofs.Common.{◌≡◌, ℕ, max, List, [], ◌∷◌, map, length, sym, refl, ap, ◌∙◌}
 use Rattle.std.proofs.lemmas.List.{length-map}
 use Rattle.algebra.specs.Field.{FieldOn}

@@ -1,29 +1,29 @@
--- Massey's steps on the lists that the code holds. Assumes nothing.
+-- Massey's steps on the lists that the code holds.
 use Rattle.std.proofs.Common.{◌≡◌, ℕ, ◌+◌, ◌-◌, ◌*◌, ◌<◌, ◌≤◌, max, List, [], ◌∷◌, ◌++◌, length, take, drop, set, sym, refl, ap, ◌∙◌, subst, ap₂, add-one, arith}
 use native.Mathlib.Decide.{dec_lt}
 use Rattle.std.proofs.lemmas.List.{take_at, drop_at, drop-drop}
 use Rattle.algebra.specs.Field.{FieldOn}
 use Rattle.algebra.specs.Poly.{coeff}
-use Rattle.algebra.specs.Series.{times}
-use Rattle.algebra.specs.Register.{State, change, changed, turn, register}
+use Rattle.algebra.specs.Series.{product_term}
+use Rattle.algebra.specs.Register.{State, updated_list, changed_list, next_state, register}
 use Rattle.algebra.proofs.Laws.{inv_unique, mul_one}
 use Rattle.algebra.proofs.Berlekamp.{invariant}
 use Rattle.algebra.proofs.Updates.{length_change}
 
 module _ {A : Type 0} (F : FieldOn A) where
   module _ (N : ℕ) (st : State A) (d : A) (z : Dec (d ≡ F.𝟘)) (f : Dec (N < 2 * st.L)) where
-    turn_long : ¬ (d ≡ F.𝟘) → N < 2 * st.L → turn F N st d z f ≡ record { conn = changed F st d; L = st.L; old = st.old; old_d = st.old_d; x = st.x + 1 }
+    turn_long : ¬ (d ≡ F.𝟘) → N < 2 * st.L → next_state F N st d z f ≡ record { conn = changed_list F st d; L = st.L; old = st.old; old_d = st.old_d; x = st.x + 1 }
     turn_long h k = by z f
       where
-        by : (z : Dec (d ≡ F.𝟘)) (f : Dec (N < 2 * st.L)) → turn F N st d z f ≡ record { conn = changed F st d; L = st.L; old = st.old; old_d = st.old_d; x = st.x + 1 }
+        by : (z : Dec (d ≡ F.𝟘)) (f : Dec (N < 2 * st.L)) → next_state F N st d z f ≡ record { conn = changed_list F st d; L = st.L; old = st.old; old_d = st.old_d; x = st.x + 1 }
         by (yes e) f = absurd (h e)
         by (no e) (yes l) = refl
         by (no e) (no l) = absurd (l k)
 
-    turn_grows : ¬ (d ≡ F.𝟘) → ¬ (N < 2 * st.L) → turn F N st d z f ≡ record { conn = changed F st d; L = N + 1 - st.L; old = st.conn; old_d = d; x = 1 }
+    turn_grows : ¬ (d ≡ F.𝟘) → ¬ (N < 2 * st.L) → next_state F N st d z f ≡ record { conn = changed_list F st d; L = N + 1 - st.L; old = st.conn; old_d = d; x = 1 }
     turn_grows h k = by z f
       where
-        by : (z : Dec (d ≡ F.𝟘)) (f : Dec (N < 2 * st.L)) → turn F N st d z f ≡ record { conn = changed F st d; L = N + 1 - st.L; old = st.conn; old_d = d; x = 1 }
+        by : (z : Dec (d ≡ F.𝟘)) (f : Dec (N < 2 * st.L)) → next_state F N st d z f ≡ record { conn = changed_list F st d; L = N + 1 - st.L; old = st.conn; old_d = d; x = 1 }
         by (yes e) f = absurd (h e)
         by (no e) (yes l) = absurd (k l)
         by (no e) (no l) = refl
@@ -49,12 +49,12 @@ module _ {A : Type 0} (F : FieldOn A) where
     st = register F (coeff F s) n
 
     abbrev d : A
-    d = times F st.conn (coeff F s) n
+    d = product_term F st.conn (coeff F s) n
 
     abbrev next : State A
     next = register F (coeff F s) (n + 1)
 
-    next_is : next ≡ turn F n st d (F.discrete d F.𝟘) (dec_lt n (2 * st.L))
+    next_is : next ≡ next_state F n st d (F.dec_eq d F.𝟘) (dec_lt n (2 * st.L))
     next_is = ap (register F (coeff F s)) (add-one n)
 
     -- what a turn keeps
@@ -81,24 +81,24 @@ module _ {A : Type 0} (F : FieldOn A) where
       back_is = ap (drop len) h.conn_is ∙ drop_at st.conn (drop len a) len (sym h.len_is)
 
       -- r is the discrepancy
-      module _ (r : A) (e : r ≡ times F (take len conn) (coeff F s) n) where
+      module _ (r : A) (e : r ≡ product_term F (take len conn) (coeff F s) n) where
         is_d : r ≡ d
-        is_d = e ∙ ap (λ l. times F l (coeff F s) n) front_is
+        is_d = e ∙ ap (λ l. product_term F l (coeff F s) n) front_is
 
         -- it is not ZERO, and c is the multiple of the old list that is taken off
         module _ (z : ¬ (r ≡ F.𝟘)) (c : A) (k : c ≡ F.mul r inverse) where
-          changed_is : change F (take len conn) c x (take ol w) ≡ changed F st d
+          changed_is : updated_list F (take len conn) c x (take ol w) ≡ changed_list F st d
           changed_is =
               let q : c ≡ F.mul d (F.inv st.old_d) = k ∙ ap₂ F.mul is_d h.inverse_is in
-              ap₂ (λ p u. change F p u x (take ol w)) front_is q ∙ ap₂ (λ y u. change F st.conn (F.mul d (F.inv st.old_d)) y u) h.x_is h.old_is
+              ap₂ (λ p u. updated_list F p u x (take ol w)) front_is q ∙ ap₂ (λ y u. updated_list F st.conn (F.mul d (F.inv st.old_d)) y u) h.x_is h.old_is
 
           wrong : ¬ (d ≡ F.𝟘)
           wrong y = z (is_d ∙ y)
 
-          size : length (changed F st d) ≡ max (length st.conn) (length st.old + st.x)
+          size : length (changed_list F st d) ≡ max (length st.conn) (length st.old + st.x)
           size = length_change F st.conn (F.mul d (F.inv st.old_d)) st.x st.old
 
-          pub fits : (conn' : List A) → ol + x ≤ len → conn' ≡ change F (take len conn) c x (take ol w) ++ drop len conn → Holds next a conn' w len ol (x + 1) inverse
+          pub fits : (conn' : List A) → ol + x ≤ len → conn' ≡ updated_list F (take len conn) c x (take ol w) ++ drop len conn → Holds next a conn' w len ol (x + 1) inverse
           fits conn' le out =
               let i = (invariant F (coeff F s) n).1 in
               let i1 = i.size in
@@ -109,7 +109,7 @@ module _ {A : Type 0} (F : FieldOn A) where
               let e3 = h.x_is in
               let long : n < 2 * st.L = omega arith in
               let l = size in
-              let q : next ≡ record { conn = changed F st d; L = st.L; old = st.old; old_d = st.old_d; x = st.x + 1 } = next_is ∙ turn_long n st d (F.discrete d F.𝟘) (dec_lt n (2 * st.L)) wrong long in
+              let q : next ≡ record { conn = changed_list F st d; L = st.L; old = st.old; old_d = st.old_d; x = st.x + 1 } = next_is ∙ turn_long n st d (F.dec_eq d F.𝟘) (dec_lt n (2 * st.L)) wrong long in
               subst (λ t. Holds t a conn' w len ol (x + 1) inverse) (sym q) (record {
                 len_is = omega arith;
                 old_len_is = h.old_len_is;
@@ -119,7 +119,7 @@ module _ {A : Type 0} (F : FieldOn A) where
                 x_is = ap (λ k. k + 1) h.x_is;
               })
 
-          pub grows : (conn' w' : List A) (r' : A) → r' ≡ F.inv r → ¬ (ol + x ≤ len) → conn' ≡ change F (take len conn) c x (take ol w) ++ drop (ol + x) conn → take len w' ≡ take len conn
+          pub grows : (conn' w' : List A) (r' : A) → r' ≡ F.inv r → ¬ (ol + x ≤ len) → conn' ≡ updated_list F (take len conn) c x (take ol w) ++ drop (ol + x) conn → take len w' ≡ take len conn
               → Holds next a conn' w' (ol + x) len 1 r'
           grows conn' w' r' e' le out saved =
               let i = (invariant F (coeff F s) n).1 in
@@ -135,7 +135,7 @@ module _ {A : Type 0} (F : FieldOn A) where
               let j : len + (ol + x - len) ≡ ol + x = omega arith in
               let rest : drop (ol + x) conn ≡ drop (ol + x) a =
               ap (λ i. drop i conn) (sym j) ∙ sym (drop-drop (ol + x - len) len conn) ∙ ap (drop (ol + x - len)) back_is ∙ drop-drop (ol + x - len) len a ∙ ap (λ i. drop i a) j in
-              let q : next ≡ record { conn = changed F st d; L = n + 1 - st.L; old = st.conn; old_d = d; x = 1 } = next_is ∙ turn_grows n st d (F.discrete d F.𝟘) (dec_lt n (2 * st.L)) wrong short in
+              let q : next ≡ record { conn = changed_list F st d; L = n + 1 - st.L; old = st.conn; old_d = d; x = 1 } = next_is ∙ turn_grows n st d (F.dec_eq d F.𝟘) (dec_lt n (2 * st.L)) wrong short in
               subst (λ t. Holds t a conn' w' (ol + x) len 1 r') (sym q) (record {
                 len_is = omega arith;
                 old_len_is = h.len_is;

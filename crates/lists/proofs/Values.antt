@@ -1,4 +1,4 @@
--- Horner's sum over a list from its last entry on. Assumes nothing.
+-- Horner's sum over a list from its last entry on.
 use Rattle.std.proofs.Common.{◌≡◌, List, [], ◌∷◌, map, reverse, refl, ap, ◌∙◌}
 use Rattle.std.specs.List.{fold}
 use Rattle.std.proofs.lemmas.List.{reverse-append}

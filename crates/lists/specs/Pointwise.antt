@@ -1,12 +1,12 @@
--- Lists entry by entry. Assumes nothing.
+-- Lists entry by entry.
 use Rattle.std.specs.Prelude.{◌≡◌, max, List, length}
 use Rattle.std.specs.Fn.{Shared}
 use Rattle.algebra.specs.Field.{FieldOn}
 use Rattle.algebra.specs.Poly.{tab, coeff}
 
 -- each call of the closure f answers what h gives
-abbrev pub Answers : {O A : Type 0} → Shared O (A × (A × Unit {0})) A → O → (A → A → A) → Type 0
-Answers {A = A} g f h = (x y r : A) → g.post f (x, (y, tt)) r → r ≡ h x y
+abbrev pub Computes : {O A : Type 0} → Shared O (A × (A × Unit {0})) A → O → (A → A → A) → Type 0
+Computes {A = A} g f h = (x y r : A) → g.post f (x, (y, tt)) r → r ≡ h x y
 
 module _ {A : Type 0} (F : FieldOn A) where
   -- what h gives for the entries at each place, as long as the longer; what lies past an end is ZERO

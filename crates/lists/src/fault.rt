@@ -1,6 +1,6 @@
 // Why a list function refuses, and the test that most of them begin with.
 ghost use Rattle.std.specs.Prelude.{◌≡◌, ◌<◌, ◌≤◌, IfOk};
-ghost use Rattle.lists.specs.Faults.{told, admitted};
+ghost use Rattle.lists.specs.Faults.{list_refusal, admit};
 ghost use Rattle.lists.specs.declared.fault.ListFault.TheVariants.{Field as of_field};
 
 use fields::{FieldFault, Layer, Refusal};
@@ -26,7 +26,7 @@ impl From<FieldFault> for ListFault {
 
 /// What the list's refusal tells: a field's keeps its number.
 impl From<ListFault> for Refusal {
-    ghost from_gives = { λ fault r. r ≡ told fault };
+    ghost from_gives = { λ fault r. r ≡ list_refusal fault };
 
     fn from(fault: ListFault) -> Refusal {
         match fault {
@@ -52,7 +52,7 @@ impl From<ListFault> for Refusal {
 /// How many entries an answer has, unless it is refused: the shortest list given must have an entry, and the list lent
 /// for the answer must have room.
 pub fn admit(given: usize, needed: usize, room: usize) -> Result<usize, ListFault>
-    ensures answer { result ≡ admitted given needed room }
+    ensures answer { result ≡ admit given needed room }
     ensures holds { IfOk result (λ n. (n ≡ needed) × (n ≤ room) × (0 < given)) }
 {
     if given == 0 {

@@ -2,8 +2,8 @@
 ghost use Rattle.std.specs.Prelude.{◌≡◌, ◌+◌, ◌≤◌, min, ◌++◌, map, length, replicate};
 ghost use Rattle.algebra.specs.Field.{pow};
 ghost use Rattle.algebra.specs.Poly.{tab, coeff, poly_add, poly_sub};
-ghost use Rattle.lists.specs.Faults.{count, written};
-ghost use Rattle.lists.specs.Pointwise.{Answers, by_entries, pointwise};
+ghost use Rattle.lists.specs.Faults.{answer_count, answer_list};
+ghost use Rattle.lists.specs.Pointwise.{Computes, by_entries, pointwise};
 
 use crate::fault::{ListFault, admit};
 use fields::arithmetic::difference;
@@ -24,10 +24,10 @@ fn combined<F: Field, O: Fn(F, F) -> F>(
     of: O,
 ) -> Result<usize, ListFault>
     requires { O.IsAlwaysCallable of }
-    ensures answer { (h : F → F → F) → Answers O.Fn of h →
-        result ≡ count (min (length a.now) (length b.now)) (by_entries F.field h a.now b.now) out.old }
-    ensures answered { (h : F → F → F) → Answers O.Fn of h →
-        out.new ≡ written (min (length a.now) (length b.now)) (by_entries F.field h a.now b.now) out.old }
+    ensures answer { (h : F → F → F) → Computes O.Fn of h →
+        result ≡ answer_count (min (length a.now) (length b.now)) (by_entries F.field h a.now b.now) out.old }
+    ensures answered { (h : F → F → F) → Computes O.Fn of h →
+        out.new ≡ answer_list (min (length a.now) (length b.now)) (by_entries F.field h a.now b.now) out.old }
 {
     let n = admit(a.len().min(b.len()), a.len().max(b.len()), out.len())?;
     // By place, since past the end of the shorter list its entry is ZERO.
@@ -39,24 +39,24 @@ fn combined<F: Field, O: Fn(F, F) -> F>(
 
 /// a + b, as long as the longer; it answers how many entries.
 pub fn add<F: Field>(a: &[F], b: &[F], out: &mut [F]) -> Result<usize, ListFault>
-    ensures answer { result ≡ count (min (length a.now) (length b.now)) (poly_add F.field a.now b.now) out.old }
-    ensures answered { out.new ≡ written (min (length a.now) (length b.now)) (poly_add F.field a.now b.now) out.old }
+    ensures answer { result ≡ answer_count (min (length a.now) (length b.now)) (poly_add F.field a.now b.now) out.old }
+    ensures answered { out.new ≡ answer_list (min (length a.now) (length b.now)) (poly_add F.field a.now b.now) out.old }
 {
     combined(a, b, out, |x, y| x.add(y))
 }
 
 /// a - b, as long as the longer; it answers how many entries.
 pub fn sub<F: Field>(a: &[F], b: &[F], out: &mut [F]) -> Result<usize, ListFault>
-    ensures answer { result ≡ count (min (length a.now) (length b.now)) (poly_sub F.field a.now b.now) out.old }
-    ensures answered { out.new ≡ written (min (length a.now) (length b.now)) (poly_sub F.field a.now b.now) out.old }
+    ensures answer { result ≡ answer_count (min (length a.now) (length b.now)) (poly_sub F.field a.now b.now) out.old }
+    ensures answered { out.new ≡ answer_list (min (length a.now) (length b.now)) (poly_sub F.field a.now b.now) out.old }
 {
     combined(a, b, out, |x, y| difference(x, y))
 }
 
 /// The powers of x up to the exponent n, n + 1 entries. No list is given.
 pub fn from_powers<F: Field>(x: F, n: usize, out: &mut [F]) -> Result<usize, ListFault>
-    ensures answer { result ≡ count 1 (tab (n + 1) (pow F.field x)) out.old }
-    ensures answered { out.new ≡ written 1 (tab (n + 1) (pow F.field x)) out.old }
+    ensures answer { result ≡ answer_count 1 (tab (n + 1) (pow F.field x)) out.old }
+    ensures answered { out.new ≡ answer_list 1 (tab (n + 1) (pow F.field x)) out.old }
 {
     if out.len() <= n {
         return Err(ListFault::Short);
@@ -71,8 +71,8 @@ pub fn from_powers<F: Field>(x: F, n: usize, out: &mut [F]) -> Result<usize, Lis
 
 /// Each entry is multiplied by the other list's entry at its place, by ZERO past that list's end.
 pub fn mul_assign_pointwise<F: Field>(list: &mut [F], other: &[F]) -> Result<usize, ListFault>
-    ensures answer { result ≡ count (min (length list.old) (length other.now)) (pointwise F.field list.old other.now) list.old }
-    ensures answered { list.new ≡ written (min (length list.old) (length other.now)) (pointwise F.field list.old other.now) list.old }
+    ensures answer { result ≡ answer_count (min (length list.old) (length other.now)) (pointwise F.field list.old other.now) list.old }
+    ensures answered { list.new ≡ answer_list (min (length list.old) (length other.now)) (pointwise F.field list.old other.now) list.old }
 {
     let n = admit(list.len().min(other.len()), list.len(), list.len())?;
     for (i, place) in list.iter_mut().enumerate() {
@@ -83,8 +83,8 @@ pub fn mul_assign_pointwise<F: Field>(list: &mut [F], other: &[F]) -> Result<usi
 
 /// The list's entries lifted into the field above; it answers how many.
 pub fn lift<E: ExtensionField>(list: &[E::BaseField], out: &mut [E]) -> Result<usize, ListFault>
-    ensures answer { result ≡ count (length list.now) (map E.lifted list.now) out.old }
-    ensures answered { out.new ≡ written (length list.now) (map E.lifted list.now) out.old }
+    ensures answer { result ≡ answer_count (length list.now) (map E.lifted list.now) out.old }
+    ensures answered { out.new ≡ answer_list (length list.now) (map E.lifted list.now) out.old }
 {
     let n = admit(list.len(), list.len(), out.len())?;
     // By the list's index: of what is written under a `zip` of `iter_mut` and the list, a proof knows nothing.

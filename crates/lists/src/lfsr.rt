@@ -2,8 +2,8 @@
 // and the list before the last growth is at the front of another; a third has the copy while the two change places.
 ghost use Rattle.std.specs.Prelude.{◌≡◌, ◌+◌, ◌*◌, ◌<◌, ◌≤◌, ◌++◌, length, take, drop};
 ghost use Rattle.algebra.specs.Poly.{coeff};
-ghost use Rattle.algebra.specs.Register.{change, register, Shortest};
-ghost use Rattle.lists.specs.Registers.{answered, filled, cleared, connection};
+ghost use Rattle.algebra.specs.Register.{updated_list, register, IsShortest};
+ghost use Rattle.lists.specs.Registers.{register_count, answer_after, second_after, connection_list};
 
 use crate::fault::ListFault;
 use crate::fieldvec::clear;
@@ -14,7 +14,7 @@ use fields::arithmetic::difference;
 // Takes c times the old list, moved up by x, off the connection list.
 fn subtract_shifted<F: Field>(conn: &mut [F], old: &[F], c: F, x: usize)
     requires { length old.now + x ≤ length conn.old }
-    ensures { conn.new ≡ change F.field conn.old c x old.now }
+    ensures { conn.new ≡ updated_list F.field conn.old c x old.now }
 {
     // No zip with the old list: of a zip over iter_mut a proof does not know what was written.
     for (i, entry) in conn[x..x + old.len()].iter_mut().enumerate() {
@@ -38,7 +38,7 @@ fn grow<F: Field>(
     requires older { old_len ≤ length old.old }
     requires kept { len ≤ length old.old }
     requires room { len ≤ length spare.old }
-    ensures list { conn.new ≡ change F.field (take len conn.old) c x (take old_len old.old) ++ drop (old_len + x) conn.old }
+    ensures list { conn.new ≡ updated_list F.field (take len conn.old) c x (take old_len old.old) ++ drop (old_len + x) conn.old }
     ensures old { take len old.new ≡ take len conn.old }
 {
     spare[..len].copy_from_slice(&conn[..len]);
@@ -52,8 +52,8 @@ fn run<F: Field>(s: &[F], conn: &mut [F], old: &mut [F], spare: &mut [F]) -> usi
     requires list { length s.now < length conn.old }
     requires older { length s.now < length old.old }
     requires room { length s.now < length spare.old }
-    ensures size { result ≡ length (connection F.field s.now) }
-    ensures list { conn.new ≡ connection F.field s.now ++ drop result conn.old }
+    ensures size { result ≡ length (connection_list F.field s.now) }
+    ensures list { conn.new ≡ connection_list F.field s.now ++ drop result conn.old }
 {
     conn[0] = F::ONE;
     old[0] = F::ONE;
@@ -92,10 +92,10 @@ pub fn berlekamp_massey<F: Field>(
     answer: &mut [F],
     second: &mut [F],
 ) -> Result<usize, ListFault>
-    ensures number { result ≡ answered F.field s.now answer.old second.old }
-    ensures list { answer.new ≡ filled F.field s.now answer.old second.old }
-    ensures after { second.new ≡ cleared F.field s.now answer.old second.old }
-    ensures shortest { Shortest F.field (coeff F.field s.now) (length s.now) (register F.field (coeff F.field s.now) (length s.now)).L (connection F.field s.now) }
+    ensures number { result ≡ register_count F.field s.now answer.old second.old }
+    ensures list { answer.new ≡ answer_after F.field s.now answer.old second.old }
+    ensures after { second.new ≡ second_after F.field s.now answer.old second.old }
+    ensures shortest { IsShortest F.field (coeff F.field s.now) (length s.now) (register F.field (coeff F.field s.now) (length s.now)).L (connection_list F.field s.now) }
 {
     let n = s.len();
     if n == 0 {

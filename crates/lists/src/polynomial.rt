@@ -1,7 +1,7 @@
 // Polynomials as coefficient lists: degree, value and derivative.
 ghost use Rattle.std.specs.Prelude.{◌≡◌, map, length};
 ghost use Rattle.algebra.specs.Poly.{eval};
-ghost use Rattle.lists.specs.Faults.{asked, count, written};
+ghost use Rattle.lists.specs.Faults.{unless_empty, answer_count, answer_list};
 ghost use Rattle.lists.specs.Lists as spec;
 
 use crate::fault::{ListFault, admit};
@@ -10,7 +10,7 @@ use fields::{ExtensionField, Field};
 
 // Refuses a list with no entry.
 pub(crate) fn not_empty<T>(list: &[T]) -> Result<(), ListFault>
-    ensures { result ≡ asked (length list.now) tt }
+    ensures { result ≡ unless_empty (length list.now) tt }
 {
     if list.is_empty() {
         Err(ListFault::Empty)
@@ -30,7 +30,7 @@ pub fn top_power<F: Field>(list: &[F]) -> usize
 
 /// The degree: the highest power with a coefficient that is not ZERO, and 0 for a list of ZEROs.
 pub fn degree<F: Field>(list: &[F]) -> Result<usize, ListFault>
-    ensures { result ≡ asked (length list.now) (spec.degree F.field list.now) }
+    ensures { result ≡ unless_empty (length list.now) (spec.degree F.field list.now) }
 {
     not_empty(list)?;
     Ok(top_power(list))
@@ -38,7 +38,7 @@ pub fn degree<F: Field>(list: &[F]) -> Result<usize, ListFault>
 
 /// The coefficient of the highest power that has one other than ZERO, and ZERO for a list of ZEROs.
 pub fn leading_term<F: Field>(list: &[F]) -> Result<F, ListFault>
-    ensures { result ≡ asked (length list.now) (spec.leading F.field list.now) }
+    ensures { result ≡ unless_empty (length list.now) (spec.leading_term F.field list.now) }
 {
     list.get(top_power(list)).copied().ok_or(ListFault::Empty)
 }
@@ -62,7 +62,7 @@ pub(crate) fn value_at<F: Field>(list: &[F], x: F) -> F
 
 /// The value at x.
 pub fn evaluate<F: Field>(list: &[F], x: F) -> Result<F, ListFault>
-    ensures { result ≡ asked (length list.now) (eval F.field list.now x) }
+    ensures { result ≡ unless_empty (length list.now) (eval F.field list.now x) }
 {
     not_empty(list)?;
     Ok(value_at(list, x))
@@ -70,7 +70,7 @@ pub fn evaluate<F: Field>(list: &[F], x: F) -> Result<F, ListFault>
 
 /// The value of a list over the base at an element of the field above.
 pub fn evaluate_lifted<E: ExtensionField>(list: &[E::BaseField], x: E) -> Result<E, ListFault>
-    ensures { result ≡ asked (length list.now) (eval E.field (map E.lifted list.now) x) }
+    ensures { result ≡ unless_empty (length list.now) (eval E.field (map E.lifted list.now) x) }
 {
     not_empty(list)?;
     Ok(horner(list, x, |entry| E::lift(entry)))
@@ -78,8 +78,8 @@ pub fn evaluate_lifted<E: ExtensionField>(list: &[E::BaseField], x: E) -> Result
 
 /// The formal derivative: as many entries as the degree; it answers how many.
 pub fn formal_derivative<F: Field>(list: &[F], out: &mut [F]) -> Result<usize, ListFault>
-    ensures answer { result ≡ count (length list.now) (spec.derivative F.field list.now) out.old }
-    ensures answered { out.new ≡ written (length list.now) (spec.derivative F.field list.now) out.old }
+    ensures answer { result ≡ answer_count (length list.now) (spec.formal_derivative F.field list.now) out.old }
+    ensures answered { out.new ≡ answer_list (length list.now) (spec.formal_derivative F.field list.now) out.old }
 {
     let n = admit(list.len(), top_power(list), out.len())?;
     // No zip with the coefficients: of a zip over iter_mut a proof does not know what was written.

@@ -1,8 +1,8 @@
 // Products of polynomials as coefficient lists, term by term.
 ghost use Rattle.std.specs.Prelude.{◌≡◌, ◌+◌, ◌^◌, ◌<◌, ◌≤◌, min, ◌++◌, length, drop};
 ghost use Rattle.algebra.specs.Poly.{tab, coeff};
-ghost use Rattle.algebra.specs.Series.{times as term_of};
-ghost use Rattle.lists.specs.Faults.{count, written};
+ghost use Rattle.algebra.specs.Series.{product_term as term_of};
+ghost use Rattle.lists.specs.Faults.{answer_count, answer_list};
 ghost use Rattle.lists.specs.Lists as spec;
 
 use crate::fault::{ListFault, admit};
@@ -38,8 +38,8 @@ pub(crate) fn series_product<F: Field>(p: &[F], q: &[F], from: usize, n: usize, 
 
 /// The product of a and b from power 0 to the sum of their degrees plus 1, cut at d; it answers how many entries.
 pub fn mul_mod_x_d<F: Field>(a: &[F], b: &[F], d: usize, out: &mut [F]) -> Result<usize, ListFault>
-    ensures answer { result ≡ count (min (length a.now) (length b.now)) (spec.product F.field a.now b.now d) out.old }
-    ensures answered { out.new ≡ written (min (length a.now) (length b.now)) (spec.product F.field a.now b.now d) out.old }
+    ensures answer { result ≡ answer_count (min (length a.now) (length b.now)) (spec.mul_mod_x_d F.field a.now b.now d) out.old }
+    ensures answered { out.new ≡ answer_list (min (length a.now) (length b.now)) (spec.mul_mod_x_d F.field a.now b.now d) out.old }
 {
     let uncut = top_power(a).saturating_add(top_power(b)).saturating_add(2);
     let n = admit(a.len().min(b.len()), d.min(uncut), out.len())?;
@@ -50,8 +50,8 @@ pub fn mul_mod_x_d<F: Field>(a: &[F], b: &[F], d: usize, out: &mut [F]) -> Resul
 /// The terms of a times s that all coefficients of a reach, or one ZERO where s is too short to have any; it answers how
 /// many entries.
 pub fn convolution<F: Field>(a: &[F], s: &[F], out: &mut [F]) -> Result<usize, ListFault>
-    ensures answer { result ≡ count (length a.now) (spec.convolved F.field a.now s.now) out.old }
-    ensures answered { out.new ≡ written (length a.now) (spec.convolved F.field a.now s.now) out.old }
+    ensures answer { result ≡ answer_count (length a.now) (spec.convolution F.field a.now s.now) out.old }
+    ensures answered { out.new ≡ answer_list (length a.now) (spec.convolution F.field a.now s.now) out.old }
 {
     let power = top_power(a);
     let terms = s.len().saturating_sub(power);

@@ -1,7 +1,7 @@
 // A cursor over the roots of a list, among the powers of a base.
 ghost use Rattle.std.specs.Prelude.{◌≡◌, length};
-ghost use Rattle.lists.specs.Faults.{asked};
-ghost use Rattle.lists.specs.Roots.{coming, Seeks, Passes, Stepped};
+ghost use Rattle.lists.specs.Faults.{unless_empty};
+ghost use Rattle.lists.specs.Roots.{remaining_roots, Seeks, Passes, Steps};
 ghost use Rattle.std.specs.List.{slice_get as item};
 
 use crate::fault::ListFault;
@@ -47,8 +47,8 @@ impl<F: Field> Roots<F> {
 
     /// The next index, none past the last.
     pub fn next(&mut self, list: &[F]) -> Result<Option<usize>, ListFault>
-        ensures answer { result ≡ asked (length list.now) (item (coming F.field list.now self.old) 0) }
-        ensures rest { Stepped F.field list.now self.old self.new }
+        ensures answer { result ≡ unless_empty (length list.now) (item (remaining_roots F.field list.now self.old) 0) }
+        ensures rest { Steps F.field list.now self.old self.new }
     {
         not_empty(list)?;
         while let Some((index, power)) = self.step() {

@@ -1,4 +1,4 @@
--- How an outcome is written. Assumes nothing.
+-- How an outcome is written.
 use Rattle.std.specs.Prelude.{◌≡◌, ℕ, List, ◌++◌, Option, codes, decimal, IfSome}
 use Rattle.fields.specs.declared.fault.Refusal.{Refusal}
 

@@ -1,13 +1,13 @@
--- What holds of every code holds of the codes of a lawful set. Assumes nothing.
+-- What holds of every code holds of the codes of a lawful set.
 use Rattle.algebra.specs.NumericCode.{NumericCode}
-use Rattle.book.specs.Codes.{Lawful}
+use Rattle.book.specs.Codes.{IsLawful}
 use Rattle.book.proofs.Same.{same, Named}
-use Rattle.script.specs.Script.{asked, Decided}
-use Rattle.script.specs.declared.script.Ask.{Ask}
-use Rattle.script.specs.declared.script.Ask.TheVariants.{Write, Blank, Doubt, Wipe, Seal, Solve, Settle}
+use Rattle.script.specs.Script.{book_call, IsDecided}
+use Rattle.script.specs.declared.script.Call.{Call}
+use Rattle.script.specs.declared.script.Call.TheVariants.{Write, Blank, Doubt, Wipe, Seal, Solve, Settle}
 
-module _ {K : Type 0} (rows : K → NumericCode) (law : (k : K) → Lawful (rows k)) where
-  named : (ask : Ask K) → Named (asked rows ask)
+module _ {K : Type 0} (codes : K → NumericCode) (law : (k : K) → IsLawful (codes k)) where
+  named : (call : Call K) → Named (book_call codes call)
   named (Write v) = tt
   named Blank = tt
   named (Doubt place) = tt
@@ -16,5 +16,5 @@ module _ {K : Type 0} (rows : K → NumericCode) (law : (k : K) → Lawful (rows
   named (Solve k lent) = law k
   named (Settle k lent) = law k
 
-  pub decided : Decided rows
-  decided b ask a a' next next' f g = same (named ask) f g
+  pub decided : IsDecided codes
+  decided b call a a' next next' f g = same (named call) f g

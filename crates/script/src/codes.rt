@@ -1,11 +1,11 @@
 // Sets of codes. A script names the code of each call by a value, so that one script can use several codes; a set says
 // what its values name.
 ghost use Rattle.std.specs.Prelude.{◌≡◌, length, replicate};
-ghost use Rattle.book.specs.Calls.{Follows, said, seal, solve, settle};
-ghost use Rattle.book.specs.CodeFaults.{told};
+ghost use Rattle.book.specs.Calls.{Follows, plain_answer, seal, solve, settle};
+ghost use Rattle.book.specs.CodeFaults.{code_refusal};
 ghost use Rattle.algebra.specs.NumericCode.{NumericCode};
-ghost use Rattle.book.specs.Codes.{Lawful};
-ghost use Rattle.correction.specs.Answers.{told_list};
+ghost use Rattle.book.specs.Codes.{IsLawful};
+ghost use Rattle.correction.specs.Answers.{search_answer};
 ghost use Rattle.either.specs.Either.{either};
 
 use book::{CodeFault, Record};
@@ -18,51 +18,51 @@ use std::marker::PhantomData;
 
 /// A set of one code, C: its only value names it.
 #[derive_where(Clone, Copy)]
-pub struct One<C> {
+pub struct Single<C> {
     pub code: PhantomData<C>,
 }
 
 /// The working list of one code, over the field in which it corrects: 216 elements are as many as any bound asks. A number and
 /// no constant, here and wherever memory is fixed, since clauses and invariants speak of it too.
 #[derive(Drop)]
-pub struct Desk<E> {
+pub struct Workspace<E> {
     pub work: [E; 216],
 }
 
-/// A set of codes. A value of it names one of them; its desk owns the working lists of all of them, each over the field
-/// in which its code corrects, so that a caller need not know those fields. The slip, the records and the desk of a call are lent by
+/// A set of codes. A value of it names one of them; its workspace owns the working lists of all of them, each over the field
+/// in which its code corrects, so that a caller need not know those fields. The slip, the records and the workspace of a call are lent by
 /// three owners, and so are three parameters.
 pub trait CodeSet: Copy {
-    type Desk;
+    type Workspace;
 
     // The code that a value names, as its rows know it.
-    ghost rows: { Self → NumericCode };
+    ghost codes: { Self → NumericCode };
 
-    // A desk is clear where each of its working lists holds ZEROs alone.
-    ghost clear: { Self.Desk → Type 0 };
+    // A workspace is clear where each of its working lists holds ZEROs alone.
+    ghost clear: { Self.Workspace → Type 0 };
 
     /// Every code of the set is lawful. Generic code calls this to have the laws at hand.
     fn laws()
-        ensures { (k : Self) → Lawful (rows k) };
+        ensures { (k : Self) → IsLawful (codes k) };
 
-    /// A clear desk.
-    fn desk() -> Self::Desk
+    /// A clear workspace.
+    fn workspace() -> Self::Workspace
         ensures { clear result };
 
     /// Seals a slip by the code.
     fn seal(self, slip: &mut Slip) -> Result<(), CodeFault>
-        ensures { Follows slip.old (seal (rows self)) (said told result) slip.new };
+        ensures { Follows slip.old (seal (codes self)) (plain_answer code_refusal result) slip.new };
 
-    /// Lists how the row of a slip becomes the row near it, by the code, w elements of the desk being lent to work in.
+    /// Lists how the row of a slip becomes the row near it, by the code, w elements of the workspace being lent to work in.
     fn solve(
         self,
         slip: &Slip,
         records: &mut [Record],
         w: usize,
-        desk: &mut Self::Desk,
+        workspace: &mut Self::Workspace,
     ) -> Result<(usize, usize), CodeFault>
-        ensures { Follows slip.now (solve (rows self) (length records.old) w)
-            (told_list result records.new) slip.now };
+        ensures { Follows slip.now (solve (codes self) (length records.old) w)
+            (search_answer result records.new) slip.now };
 
     /// The same, and the slip then holds that row, nothing doubted.
     fn settle(
@@ -70,16 +70,16 @@ pub trait CodeSet: Copy {
         slip: &mut Slip,
         records: &mut [Record],
         w: usize,
-        desk: &mut Self::Desk,
+        workspace: &mut Self::Workspace,
     ) -> Result<(usize, usize), CodeFault>
-        ensures { Follows slip.old (settle (rows self) (length records.old) w)
-            (told_list result records.new) slip.new };
+        ensures { Follows slip.old (settle (codes self) (length records.old) w)
+            (search_answer result records.new) slip.new };
 }
 
-impl<C: Checksum> CodeSet for One<C> {
-    type Desk = Desk<C::CorrectionField>;
+impl<C: Checksum> CodeSet for Single<C> {
+    type Workspace = Workspace<C::CorrectionField>;
 
-    ghost rows = { λ _. C.rows };
+    ghost codes = { λ _. C.codes };
 
     ghost clear = { λ d. d.work ≡ replicate 216 C.CorrectionField.field.𝟘 };
 
@@ -88,9 +88,9 @@ impl<C: Checksum> CodeSet for One<C> {
         C::CorrectionField::lift_laws();
     }
 
-    fn desk() -> Desk<C::CorrectionField> {
+    fn workspace() -> Workspace<C::CorrectionField> {
         C::CorrectionField::small();
-        Desk {
+        Workspace {
             work: [C::CorrectionField::ZERO; 216],
         }
     }
@@ -107,10 +107,10 @@ impl<C: Checksum> CodeSet for One<C> {
         slip: &Slip,
         records: &mut [Record],
         w: usize,
-        desk: &mut Desk<C::CorrectionField>,
+        workspace: &mut Workspace<C::CorrectionField>,
     ) -> Result<(usize, usize), CodeFault> {
         C::laws();
-        solve::<C>(slip, records, &mut desk.work[..w.min(216)])
+        solve::<C>(slip, records, &mut workspace.work[..w.min(216)])
     }
 
     fn settle(
@@ -118,18 +118,18 @@ impl<C: Checksum> CodeSet for One<C> {
         slip: &mut Slip,
         records: &mut [Record],
         w: usize,
-        desk: &mut Desk<C::CorrectionField>,
+        workspace: &mut Workspace<C::CorrectionField>,
     ) -> Result<(usize, usize), CodeFault> {
         C::laws();
-        settle::<C>(slip, records, &mut desk.work[..w.min(216)])
+        settle::<C>(slip, records, &mut workspace.work[..w.min(216)])
     }
 }
 
 // Two sets as one: a value names a code of the first or of the second.
 impl<A: CodeSet, B: CodeSet> CodeSet for Either<A, B> {
-    type Desk = (A::Desk, B::Desk);
+    type Workspace = (A::Workspace, B::Workspace);
 
-    ghost rows = { either A.rows B.rows };
+    ghost codes = { either A.codes B.codes };
 
     ghost clear = { λ d. A.clear d.0 × B.clear d.1 };
 
@@ -138,8 +138,8 @@ impl<A: CodeSet, B: CodeSet> CodeSet for Either<A, B> {
         B::laws();
     }
 
-    fn desk() -> (A::Desk, B::Desk) {
-        (A::desk(), B::desk())
+    fn workspace() -> (A::Workspace, B::Workspace) {
+        (A::workspace(), B::workspace())
     }
 
     fn seal(self, slip: &mut Slip) -> Result<(), CodeFault> {
@@ -154,11 +154,11 @@ impl<A: CodeSet, B: CodeSet> CodeSet for Either<A, B> {
         slip: &Slip,
         records: &mut [Record],
         w: usize,
-        desk: &mut (A::Desk, B::Desk),
+        workspace: &mut (A::Workspace, B::Workspace),
     ) -> Result<(usize, usize), CodeFault> {
         match self {
-            Left(a) => a.solve(slip, records, w, &mut desk.0),
-            Right(b) => b.solve(slip, records, w, &mut desk.1),
+            Left(a) => a.solve(slip, records, w, &mut workspace.0),
+            Right(b) => b.solve(slip, records, w, &mut workspace.1),
         }
     }
 
@@ -167,11 +167,11 @@ impl<A: CodeSet, B: CodeSet> CodeSet for Either<A, B> {
         slip: &mut Slip,
         records: &mut [Record],
         w: usize,
-        desk: &mut (A::Desk, B::Desk),
+        workspace: &mut (A::Workspace, B::Workspace),
     ) -> Result<(usize, usize), CodeFault> {
         match self {
-            Left(a) => a.settle(slip, records, w, &mut desk.0),
-            Right(b) => b.settle(slip, records, w, &mut desk.1),
+            Left(a) => a.settle(slip, records, w, &mut workspace.0),
+            Right(b) => b.settle(slip, records, w, &mut workspace.1),
         }
     }
 }

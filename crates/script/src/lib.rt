@@ -6,6 +6,6 @@ pub mod listing;
 pub mod run;
 pub mod script;
 
-pub use codes::{CodeSet, Desk, One};
+pub use codes::{CodeSet, Workspace, Single};
 pub use listing::Listing;
-pub use script::{Answer, Ask, Lent, Reply, Turn};
+pub use script::{Answer, Call, Lent, Reply, Step};

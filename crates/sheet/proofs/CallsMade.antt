@@ -4,16 +4,16 @@ use Rattle.std.specs.List.{flat_map, position_or_len}
 use Rattle.std.proofs.lemmas.List.{flat_map_more}
 use Rattle.std.proofs.lemmas.Bool.{eqb-true}
 use Rattle.book.specs.Book as book
-use Rattle.book.specs.Book.{Book, answer, after, fresh}
-use Rattle.book.specs.Calls.{Call, Follows, said, done, wipe, write, blank, writes, blanks, wipes}
-use Rattle.book.specs.SlipFaults as slip
+use Rattle.book.specs.Book.{Book, answer_of, book_after, fresh_book}
+use Rattle.book.specs.Calls.{BookCall, Follows, plain_answer, done, wipe, write, blank, writes, blanks, wipes}
+use Rattle.book.specs.SlipFaults.{slip_refusal}
 use Rattle.book.specs.Story.{Leads}
 use Rattle.book.specs.declared.slip_fault.SlipFault.{SlipFault}
 use Rattle.sheet.proofs.Fronts.{one_before}
-use Rattle.sheet.specs.Pieces.{Part, remark, closed, pieces_after}
+use Rattle.sheet.specs.Pieces.{Part, remark, with_group_before, pieces_after}
 use Rattle.sheet.specs.Calls.{all_done, call_of, calls_of, calls_of_bytes, calls_of_part}
-use Rattle.sheet.specs.Characters.{character_of}
-use Rattle.sheet.specs.Taking.{before_slash, is_other, line_case, at_byte, and_then, entered, taken_all, take_line}
+use Rattle.sheet.specs.Characters.{read_character}
+use Rattle.sheet.specs.Taking.{before_slash, is_other_case, line_case, fault_at_byte, and_then, book_after_character, book_after_bytes, take_line}
 use Rattle.sheet.specs.declared.characters.Character.{Character}
 use Rattle.sheet.specs.declared.characters.Character.TheVariants.{Symbol, QuestionMark}
 use Rattle.sheet.specs.declared.characters.Case.{Case}
@@ -25,14 +25,14 @@ never : {X : Type 0} (fault : LineFault) (b : Book) → ◌≡◌ {A = Result Bo
 never fault b e = let z : ◌≡◌ {A = ℕ} 0 1 = cc in absurd (omega arith)
 
 -- a space says nothing
-space_outside : (byte : ℕ) → eqb byte 32 ≡ true → character_of byte ≡ None
-space_outside byte s = ap character_of (eqb-true byte 32 s)
+space_outside : (byte : ℕ) → eqb byte 32 ≡ true → read_character byte ≡ None
+space_outside byte s = ap read_character (eqb-true byte 32 s)
 
 no_call : (said : Option Character) → said ≡ None → call_of said ≡ []
 no_call said e = ap call_of e
 
 -- the calls of a line's pieces are those of the bytes before its slash
-closed_calls : (front : List ℕ) (parts : List Part) → flat_map calls_of_part (closed front parts) ≡ calls_of_bytes front ++ flat_map calls_of_part parts
+closed_calls : (front : List ℕ) (parts : List Part) → flat_map calls_of_part (with_group_before front parts) ≡ calls_of_bytes front ++ flat_map calls_of_part parts
 closed_calls [] parts = refl
 closed_calls (byte ∷ bytes) parts = refl
 
@@ -40,15 +40,15 @@ module _ (front bytes : List ℕ) (byte : ℕ)
     (apart : flat_map calls_of_part (pieces_after [] bytes) ≡ calls_of_bytes (before_slash bytes))
     (on : flat_map calls_of_part (pieces_after (front ++ byte ∷ []) bytes) ≡ calls_of_bytes (front ++ byte ∷ []) ++ calls_of_bytes (before_slash bytes)) where
   one_byte_calls : (slash space : Bool) → eqb byte 32 ≡ space →
-      flat_map calls_of_part (cond slash (closed front (remark bytes ∷ [])) (cond space (closed front (pieces_after [] bytes)) (pieces_after (front ++ byte ∷ []) bytes)))
+      flat_map calls_of_part (cond slash (with_group_before front (remark bytes ∷ [])) (cond space (with_group_before front (pieces_after [] bytes)) (pieces_after (front ++ byte ∷ []) bytes)))
       ≡ calls_of_bytes front ++ calls_of_bytes (cond slash [] (byte ∷ before_slash bytes))
   one_byte_calls true space s = closed_calls front (remark bytes ∷ [])
   one_byte_calls false true s =
       closed_calls front (pieces_after [] bytes) ∙ ap (λ calls. calls_of_bytes front ++ calls) apart
-      ∙ ap (λ calls. calls_of_bytes front ++ (calls ++ calls_of_bytes (before_slash bytes))) (sym (no_call (character_of byte) (space_outside byte s)))
+      ∙ ap (λ calls. calls_of_bytes front ++ (calls ++ calls_of_bytes (before_slash bytes))) (sym (no_call (read_character byte) (space_outside byte s)))
   one_byte_calls false false s =
-      on ∙ ap (λ calls. calls ++ calls_of_bytes (before_slash bytes)) (sym (flat_map_more (λ b. call_of (character_of b)) [] front byte))
-      ∙ append_assoc (calls_of_bytes front) (call_of (character_of byte)) (calls_of_bytes (before_slash bytes))
+      on ∙ ap (λ calls. calls ++ calls_of_bytes (before_slash bytes)) (sym (flat_map_more (λ b. call_of (read_character b)) [] front byte))
+      ∙ append_assoc (calls_of_bytes front) (call_of (read_character byte)) (calls_of_bytes (before_slash bytes))
 
 pieces_calls : (line front : List ℕ) → flat_map calls_of_part (pieces_after front line) ≡ calls_of_bytes front ++ calls_of_bytes (before_slash line)
 pieces_calls [] front = closed_calls front []
@@ -58,38 +58,38 @@ pieces_calls (byte ∷ bytes) front =
 
 -- bytes that are all taken lead from book to book by calls that are all accepted
 module _ (case : Case) (place byte : ℕ) (bytes : List ℕ) (b last : Book)
-    (rest : (c : Book) → taken_all true case (place + 1) bytes c ≡ Ok last → Leads c (all_done (calls_of_bytes bytes)) last) where
-  call_leads : (call : Call) (called : Result Book SlipFault) → Follows b call (said slip.told called) (after b called)
-      → and_then (at_byte place called) (taken_all true case (place + 1) bytes) ≡ Ok last → Leads b (all_done (call ∷ calls_of_bytes bytes)) last
+    (rest : (c : Book) → book_after_bytes true case (place + 1) bytes c ≡ Ok last → Leads c (all_done (calls_of_bytes bytes)) last) where
+  call_leads : (call : BookCall) (called : Result Book SlipFault) → Follows b call (plain_answer slip_refusal called) (book_after b called)
+      → and_then (fault_at_byte place called) (book_after_bytes true case (place + 1) bytes) ≡ Ok last → Leads b (all_done (call ∷ calls_of_bytes bytes)) last
   call_leads call (Ok next) follows e = (next, follows, rest next e)
   call_leads call (Err fault) follows e = never _ last e
 
-  write_leads : (v : ℕ) (other : Bool) (called : Result Book SlipFault) → Follows b (write v) (said slip.told called) (after b called)
-      → and_then (cond other (Err (OtherCase place)) (at_byte place called)) (taken_all true case (place + 1) bytes) ≡ Ok last
+  write_leads : (v : ℕ) (other : Bool) (called : Result Book SlipFault) → Follows b (write v) (plain_answer slip_refusal called) (book_after b called)
+      → and_then (cond other (Err (OtherCase place)) (fault_at_byte place called)) (book_after_bytes true case (place + 1) bytes) ≡ Ok last
       → Leads b (all_done (write v ∷ calls_of_bytes bytes)) last
   write_leads v true called follows e = never _ last e
   write_leads v false called follows e = call_leads (write v) called follows e
 
-  byte_leads : (space : Bool) (says : Option Character) → eqb byte 32 ≡ space → character_of byte ≡ says
-      → and_then (cond space (Ok b) (entered true case place byte says b)) (taken_all true case (place + 1) bytes) ≡ Ok last
+  byte_leads : (space : Bool) (says : Option Character) → eqb byte 32 ≡ space → read_character byte ≡ says
+      → and_then (cond space (Ok b) (book_after_character true case place byte says b)) (book_after_bytes true case (place + 1) bytes) ≡ Ok last
       → Leads b (all_done (call_of says ++ calls_of_bytes bytes)) last
   byte_leads true says s is e =
-      subst (λ (calls : List Call). Leads b (all_done (calls ++ calls_of_bytes bytes)) last) (sym (no_call says (sym is ∙ space_outside byte s))) (rest b e)
-  byte_leads false (Some (Symbol v)) s is e = write_leads v (is_other case byte) (book.write v b) writes e
+      subst (λ (calls : List BookCall). Leads b (all_done (calls ++ calls_of_bytes bytes)) last) (sym (no_call says (sym is ∙ space_outside byte s))) (rest b e)
+  byte_leads false (Some (Symbol v)) s is e = write_leads v (is_other_case case byte) (book.write v b) writes e
   byte_leads false (Some QuestionMark) s is e = call_leads blank (book.blank b) blanks e
   byte_leads false None s is e = never _ last e
 
-bytes_lead : (case : Case) (place : ℕ) (bytes : List ℕ) (b last : Book) → taken_all true case place bytes b ≡ Ok last → Leads b (all_done (calls_of_bytes bytes)) last
+bytes_lead : (case : Case) (place : ℕ) (bytes : List ℕ) (b last : Book) → book_after_bytes true case place bytes b ≡ Ok last → Leads b (all_done (calls_of_bytes bytes)) last
 bytes_lead case place [] b last e = cc
 bytes_lead case place (byte ∷ bytes) b last e =
-    byte_leads case place byte bytes b last (λ c. bytes_lead case (place + 1) bytes c last) (eqb byte 32) (character_of byte) refl refl e
+    byte_leads case place byte bytes b last (λ c. bytes_lead case (place + 1) bytes c last) (eqb byte 32) (read_character byte) refl refl e
 
-module _ (line : List ℕ) (b last : Book) (r : Result (Unit {0}) LineFault) (a : r ≡ answer (take_line true line)) (e : last ≡ after fresh (take_line true line)) where
+module _ (line : List ℕ) (b last : Book) (r : Result (Unit {0}) LineFault) (a : r ≡ answer_of (take_line true line)) (e : last ≡ book_after fresh_book (take_line true line)) where
   pub line_leads : r ≡ Ok tt → Leads b (all_done (calls_of line)) last
   line_leads ok =
       let groups = before_slash line in
-      let led = bytes_lead (line_case groups) 0 groups fresh last (accepted (take_line true line) last (sym ok ∙ a) e) in
-      (fresh, wipes, subst (λ (calls : List Call). Leads fresh (all_done calls) last) (sym (pieces_calls line [])) led)
+      let led = bytes_lead (line_case groups) 0 groups fresh_book last (accepted (take_line true line) last (sym ok ∙ a) e) in
+      (fresh_book, wipes, subst (λ (calls : List BookCall). Leads fresh_book (all_done calls) last) (sym (pieces_calls line [])) led)
 
   pub only_wiped : (fault : LineFault) → r ≡ Err fault → Leads b ((wipe, done) ∷ []) last
-  only_wiped fault err = (fresh, wipes, e ∙ ap (after fresh) (refused (take_line true line) fault (sym err ∙ a)))
+  only_wiped fault err = (fresh_book, wipes, e ∙ ap (book_after fresh_book) (refused (take_line true line) fault (sym err ∙ a)))

@@ -2,7 +2,7 @@
 use Rattle.std.proofs.Common.{◌≡◌, ◌≢◌, ℕ, ◌<◌, All, List, [], ◌∷◌, ◌++◌, length, sym, refl, ap, ◌∙◌, append_assoc, append-nil, arith}
 use Rattle.std.proofs.lemmas.Bool.{ne_eqb}
 use Rattle.std.proofs.lemmas.List.Elements.{All-head, All-tail}
-use Rattle.sheet.specs.Lines.{before, lines_of}
+use Rattle.sheet.specs.Lines.{with_byte_before, lines_of}
 use Rattle.sheet.specs.Streams.{onto, whole_lines}
 
 abbrev pub NoNewline : List ℕ → Type 0
@@ -12,7 +12,7 @@ one_line : (line rest : List ℕ) → NoNewline line → lines_of (line ++ 10 �
 one_line [] rest h = refl
 one_line (byte ∷ bytes) rest h =
     let here = ne_eqb byte 10 (All-head (λ b. b ≢ 10) byte bytes h) in
-    simp here (ap (before byte) (one_line bytes rest (All-tail (λ b. b ≢ 10) byte bytes h)))
+    simp here (ap (with_byte_before byte) (one_line bytes rest (All-tail (λ b. b ≢ 10) byte bytes h)))
 
 one_whole : (line rest : List ℕ) → NoNewline line → whole_lines (line ++ 10 ∷ rest) ≡ line ∷ whole_lines rest
 one_whole [] rest h = refl
@@ -26,7 +26,7 @@ last_line (byte ∷ []) h some = simp (ne_eqb byte 10 (All-head (λ b. b ≢ 10)
 last_line (byte ∷ next ∷ bytes) h some =
     let here = ne_eqb byte 10 (All-head (λ b. b ≢ 10) byte (next ∷ bytes) h) in
     let tail = last_line (next ∷ bytes) (All-tail (λ b. b ≢ 10) byte (next ∷ bytes) h) (omega arith) in
-    rw here (ap (before byte) tail)
+    rw here (ap (with_byte_before byte) tail)
 
 no_whole : (line : List ℕ) → NoNewline line → whole_lines line ≡ []
 no_whole [] h = refl

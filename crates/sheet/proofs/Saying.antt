@@ -1,17 +1,17 @@
 -- What a typed line says, and that it says nothing else.
 use Rattle.std.proofs.Common.{◌≡◌, ℕ, true, List, map, Some, None, Ok, Err, Option, Result, sym, refl, ap, ◌∙◌, subst, ap₂}
 use Rattle.fields.specs.declared.fault.Refusal.{Refusal}
-use Rattle.book.specs.Book.{Book, row, sure}
-use Rattle.book.specs.Calls.{Answer, Follows, Mends, done, listed, lists, refused, settle, settled, settles, barred, none_near, one_near}
+use Rattle.book.specs.Book.{Book, row, undoubted_place}
+use Rattle.book.specs.Calls.{BookAnswer, Follows, SearchGives, done, listed, listing_of, refused, settle, settled_book, settles, barred, none_near, one_near}
 use Rattle.algebra.specs.NumericCode.{NumericCode}
-use Rattle.book.specs.Mending.{changes, nonzero}
+use Rattle.book.specs.Mending.{changes, nonzero_count}
 use Rattle.book.specs.declared.record.Record.{Record}
 use Rattle.book.proofs.Rows.{row_sure}
-use Rattle.sheet.specs.Faults.{told}
+use Rattle.sheet.specs.Faults.{line_refusal}
 use Rattle.sheet.specs.ReadingOff.{read_off}
 use Rattle.sheet.specs.Taking.{take_line}
 use Rattle.sheet.specs.declared.fault.LineFault.{LineFault}
-use Rattle.sheet.specs.Shown.{OneWay, OnlySays, Says, not_taken, not_mended, not_read, finishes}
+use Rattle.sheet.specs.Shown.{HasOneAnswer, OnlySays, Says, not_taken, not_mended, not_read, finishes}
 use Rattle.sheet.specs.declared.reading.Reading.{Reading}
 
 -- a line is not both taken and refused
@@ -25,38 +25,38 @@ same_err : {X Y : Type 0} {r : Result X Y} {x y : Y} → r ≡ Err x → r ≡ E
 same_err e f = cc
 
 module _ (C : NumericCode) (line : List ℕ) (fault : LineFault) (e : take_line true line ≡ Err fault) where
-  nothing_but_refused : (other : Result Reading Refusal) → Says C line other → other ≡ Err (told fault)
-  nothing_but_refused _ (not_taken f) = ap (λ x. Err (told x)) (same_err f e)
+  nothing_but_refused : (other : Result Reading Refusal) → Says C line other → other ≡ Err (line_refusal fault)
+  nothing_but_refused _ (not_taken f) = ap (λ x. Err (line_refusal x)) (same_err f e)
   nothing_but_refused _ (not_mended f _) = absurd (taken_refused f e)
   nothing_but_refused _ (not_read f _ _) = absurd (taken_refused f e)
   nothing_but_refused _ (finishes f _ _) = absurd (taken_refused f e)
 
-  pub only_refused : OnlySays C line (Err (told fault))
+  pub only_refused : OnlySays C line (Err (line_refusal fault))
   only_refused = record { says = not_taken e; nothing_else = nothing_but_refused }
 
 -- how a settle answers
 module _ {C : NumericCode} {r w : ℕ} {b : Book} where
-  mends_listed : {a : Answer} {found : Option (List ℕ)} {cs : List Record} {i j : ℕ} → Mends C r w b a found → a ≡ listed cs i j
-      → (n : List ℕ) × Mends C r w b (lists C b n) (Some n) × (j ≡ nonzero C (changes C b n)) × (settled b found ≡ map sure n)
+  mends_listed : {a : BookAnswer} {found : Option (List ℕ)} {cs : List Record} {i j : ℕ} → SearchGives C r w b a found → a ≡ listed cs i j
+      → (n : List ℕ) × SearchGives C r w b (listing_of C b n) (Some n) × (j ≡ nonzero_count C (changes C b n)) × (settled_book b found ≡ map undoubted_place n)
   mends_listed (barred f) e = cc
   mends_listed (none_near f none) e = cc
   mends_listed (one_near {n = n} f near) e = (n, one_near f near, cc, refl)
 
-  mends_refused : {a : Answer} {found : Option (List ℕ)} {why : Refusal} → Mends C r w b a found → a ≡ refused why → Mends C r w b (refused why) None
-  mends_refused (barred f) e = subst (λ x. Mends C r w b x None) e (barred f)
-  mends_refused (none_near f none) e = subst (λ x. Mends C r w b x None) e (none_near f none)
+  mends_refused : {a : BookAnswer} {found : Option (List ℕ)} {why : Refusal} → SearchGives C r w b a found → a ≡ refused why → SearchGives C r w b (refused why) None
+  mends_refused (barred f) e = subst (λ x. SearchGives C r w b x None) e (barred f)
+  mends_refused (none_near f none) e = subst (λ x. SearchGives C r w b x None) e (none_near f none)
   mends_refused (one_near f near) e = cc
 
-  mends_not_done : {a : Answer} {found : Option (List ℕ)} → Mends C r w b a found → a ≡ done → ⊥
+  mends_not_done : {a : BookAnswer} {found : Option (List ℕ)} → SearchGives C r w b a found → a ≡ done → ⊥
   mends_not_done (barred f) e = cc
   mends_not_done (none_near f none) e = cc
   mends_not_done (one_near f near) e = cc
 
 pub settle_listed : {C : NumericCode} {r w : ℕ} {b d : Book} {cs : List Record} {i j : ℕ} → Follows b (settle C r w) (listed cs i j) d
-    → (n : List ℕ) × Mends C r w b (lists C b n) (Some n) × (j ≡ nonzero C (changes C b n)) × (d ≡ map sure n)
+    → (n : List ℕ) × SearchGives C r w b (listing_of C b n) (Some n) × (j ≡ nonzero_count C (changes C b n)) × (d ≡ map undoubted_place n)
 settle_listed (settles m) = mends_listed m refl
 
-pub settle_refused : {C : NumericCode} {r w : ℕ} {b d : Book} {why : Refusal} → Follows b (settle C r w) (refused why) d → Mends C r w b (refused why) None
+pub settle_refused : {C : NumericCode} {r w : ℕ} {b d : Book} {why : Refusal} → Follows b (settle C r w) (refused why) d → SearchGives C r w b (refused why) None
 settle_refused (settles m) = mends_refused m refl
 
 pub settle_not_done : {C : NumericCode} {r w : ℕ} {b d : Book} → Follows b (settle C r w) done d → ⊥
@@ -64,31 +64,31 @@ settle_not_done (settles m) = mends_not_done m refl
 
 -- what is said of the book that a line is taken as
 data Reads (C : NumericCode) (b : Book) : Result Reading Refusal → Type 0 where
-  barely : {why : Refusal} → Mends C 16 216 b (refused why) None → Reads C b (Err why)
-  badly : {n : List ℕ} {fault : LineFault} → Mends C 16 216 b (lists C b n) (Some n) → read_off n ≡ Err fault → Reads C b (Err (told fault))
-  wholly : {n : List ℕ} {sail tenths : ℕ} → Mends C 16 216 b (lists C b n) (Some n) → read_off n ≡ Ok (sail, tenths)
-      → Reads C b (Ok (record { changes = nonzero C (changes C b n); sail = sail; tenths = tenths }))
+  barely : {why : Refusal} → SearchGives C 16 216 b (refused why) None → Reads C b (Err why)
+  badly : {n : List ℕ} {fault : LineFault} → SearchGives C 16 216 b (listing_of C b n) (Some n) → read_off n ≡ Err fault → Reads C b (Err (line_refusal fault))
+  wholly : {n : List ℕ} {sail tenths : ℕ} → SearchGives C 16 216 b (listing_of C b n) (Some n) → read_off n ≡ Ok (sail, tenths)
+      → Reads C b (Ok (record { changes = nonzero_count C (changes C b n); sail = sail; tenths = tenths }))
 
 of_same : {C : NumericCode} {b d : Book} {outcome : Result Reading Refusal} → b ≡ d → Reads C b outcome → Reads C d outcome
 of_same {C} {b} {d} {outcome} e reads = subst (λ x. Reads C x outcome) e reads
 
-module _ (C : NumericCode) (decided : OneWay C) (line : List ℕ) (b : Book) (taken : take_line true line ≡ Ok b) where
+module _ (C : NumericCode) (decided : HasOneAnswer C) (line : List ℕ) (b : Book) (taken : take_line true line ≡ Ok b) where
   reads : (outcome : Result Reading Refusal) → Says C line outcome → Reads C b outcome
   reads _ (not_taken f) = absurd (taken_refused taken f)
   reads _ (not_mended f m) = of_same (same_ok f taken) (barely m)
   reads _ (not_read f m o) = of_same (same_ok f taken) (badly m o)
   reads _ (finishes f m o) = of_same (same_ok f taken) (wholly m o)
 
-  one_answer : {a a' : Answer} {found found' : Option (List ℕ)} → Mends C 16 216 b a found → Mends C 16 216 b a' found' → a ≡ a'
+  one_answer : {a a' : BookAnswer} {found found' : Option (List ℕ)} → SearchGives C 16 216 b a found → SearchGives C 16 216 b a' found' → a ≡ a'
   one_answer m k = (decided b _ _ _ _ (settles m) (settles k)).0
 
-  one_row : {a a' : Answer} {n n' : List ℕ} → Mends C 16 216 b a (Some n) → Mends C 16 216 b a' (Some n') → n ≡ n'
+  one_row : {a a' : BookAnswer} {n n' : List ℕ} → SearchGives C 16 216 b a (Some n) → SearchGives C 16 216 b a' (Some n') → n ≡ n'
   one_row {n = n} {n' = n'} m k = sym (row_sure n) ∙ ap row (decided b _ _ _ _ (settles m) (settles k)).1 ∙ row_sure n'
 
-  not_both : {X : Type 0} {why : Refusal} {cs : List Record} {i j : ℕ} {found found' : Option (List ℕ)} → Mends C 16 216 b (refused why) found → Mends C 16 216 b (listed cs i j) found' → X
+  not_both : {X : Type 0} {why : Refusal} {cs : List Record} {i j : ℕ} {found found' : Option (List ℕ)} → SearchGives C 16 216 b (refused why) found → SearchGives C 16 216 b (listed cs i j) found' → X
   not_both m k = let e = one_answer m k in cc
 
-  same_why : {why why' : Refusal} → ◌≡◌ {A = Answer} (refused why) (refused why') → why ≡ why'
+  same_why : {why why' : Refusal} → ◌≡◌ {A = BookAnswer} (refused why) (refused why') → why ≡ why'
   same_why e = cc
 
   one_reading : (x y : Result Reading Refusal) → Reads C b x → Reads C b y → y ≡ x
@@ -96,21 +96,21 @@ module _ (C : NumericCode) (decided : OneWay C) (line : List ℕ) (b : Book) (ta
   one_reading _ _ (barely m) (badly k _) = not_both m k
   one_reading _ _ (barely m) (wholly k _) = not_both m k
   one_reading _ _ (badly m _) (barely k) = not_both k m
-  one_reading _ _ (badly m o) (badly k q) = ap (λ (f : LineFault). Err (told f)) (same_err q (ap read_off (one_row k m) ∙ o))
+  one_reading _ _ (badly m o) (badly k q) = ap (λ (f : LineFault). Err (line_refusal f)) (same_err q (ap read_off (one_row k m) ∙ o))
   one_reading _ _ (badly m o) (wholly k q) = absurd (taken_refused (ap read_off (one_row m k) ∙ q) o)
   one_reading _ _ (wholly m _) (barely k) = not_both k m
   one_reading _ _ (wholly m o) (badly k q) = absurd (taken_refused o (ap read_off (one_row m k) ∙ q))
   one_reading _ _ (wholly {n = n} m o) (wholly {n = n'} k q) =
       let same = one_row k m in
       let of : ℕ → ℕ × ℕ → Result Reading Refusal = λ m p. Ok (record { changes = m; sail = p.0; tenths = p.1 }) in
-      ap₂ of (ap (λ (v : List ℕ). nonzero C (changes C b v)) same) (same_ok q (ap read_off same ∙ o))
+      ap₂ of (ap (λ (v : List ℕ). nonzero_count C (changes C b v)) same) (same_ok q (ap read_off same ∙ o))
 
   pub only : (outcome : Result Reading Refusal) → Says C line outcome → OnlySays C line outcome
   only outcome says = record { says = says; nothing_else = λ other s. one_reading outcome other (reads outcome says) (reads other s) }
 
   -- a settle that listed, and what its row is read off as
   module _ {d : Book} {cs : List Record} {i j : ℕ} (follows : Follows b (settle C 16 216) (listed cs i j) d) (symbols : List ℕ) (is_row : symbols ≡ row d) where
-    pub only_unread : (fault : LineFault) → Err fault ≡ read_off symbols → OnlySays C line (Err (told fault))
+    pub only_unread : (fault : LineFault) → Err fault ≡ read_off symbols → OnlySays C line (Err (line_refusal fault))
     only_unread fault e =
         let found = settle_listed follows in
         let same : symbols ≡ found.0 = is_row ∙ ap row found.3 ∙ row_sure found.0 in

@@ -1,4 +1,4 @@
--- A number in a column of bytes, and the number that a column says. Assumes nothing.
+-- A number in a column of bytes, and the number that a column says.
 use Rattle.std.specs.Prelude.{ℕ, zero, suc, ◌+◌, ◌-◌, ◌*◌, ◌/◌, ◌%◌, Bool, cond, ◌&&◌, List, [], ◌∷◌, ◌++◌, Some, None, Option, ◌==◌, nat_le}
 
 -- the places before the last digit: the digits of a number, spaces where none is left
@@ -15,11 +15,11 @@ abbrev pub is_digit : ℕ → Bool
 is_digit byte = nat_le 48 byte && nat_le byte 57
 
 -- the number that digits say after those of n; none if there is another byte
-abbrev pub digits_after : ℕ → List ℕ → Option ℕ
-digits_after n [] = Some n
-digits_after n (byte ∷ bytes) = cond (is_digit byte) (digits_after (n * 10 + (byte - 48)) bytes) None
+abbrev pub decimal_after : ℕ → List ℕ → Option ℕ
+decimal_after n [] = Some n
+decimal_after n (byte ∷ bytes) = cond (is_digit byte) (decimal_after (n * 10 + (byte - 48)) bytes) None
 
 -- spaces, then the digits of a number; none if there is another byte, or no digit
 abbrev pub read_column : List ℕ → Option ℕ
 read_column [] = None
-read_column (byte ∷ bytes) = cond (byte == 32) (read_column bytes) (digits_after 0 (byte ∷ bytes))
+read_column (byte ∷ bytes) = cond (byte == 32) (read_column bytes) (decimal_after 0 (byte ∷ bytes))

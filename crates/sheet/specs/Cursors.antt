@@ -1,4 +1,4 @@
--- What a piece holds, and what a cursor has yet to hand out. Assumes nothing.
+-- What a piece holds, and what a cursor has yet to hand out.
 use Rattle.std.specs.Prelude.{List}
 use Rattle.sheet.specs.Pieces.{Part, group, remark, pieces}
 use Rattle.sheet.specs.declared.pieces.Piece.{Piece}
@@ -9,5 +9,5 @@ abbrev pub bytes_of : Piece → Part
 bytes_of (Group bytes) = group bytes.now
 bytes_of (Remark bytes) = remark bytes.now
 
-abbrev pub coming : Pieces → List Part
-coming cursor = pieces cursor.rest.now
+abbrev pub remaining_pieces : Pieces → List Part
+remaining_pieces cursor = pieces cursor.rest.now

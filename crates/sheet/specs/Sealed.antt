@@ -1,4 +1,4 @@
--- The sealed row of a boat's line, as text. Assumes nothing.
+-- The sealed row of a boat's line, as text.
 use Rattle.std.specs.Prelude.{ℕ, false, cond, List, ◌++◌, length, Ok, Err, Result, ◌==◌}
 use Rattle.checksum.specs.Finish.{finish}
 use Rattle.fields.specs.Gf32.{gf32, gf32_numbers}

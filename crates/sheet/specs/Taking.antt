@@ -1,15 +1,15 @@
--- What a typed line does to a slip's book. Assumes nothing.
+-- What a typed line does to a slip's book.
 --   before_slash   the part of a line that holds its groups
 --   line_case      the case of a line
---   taken          one byte of that part: the book after it, or why the line is refused there
+--   book_after_byte   one byte of that part: the book after it, or why the line is refused there
 --   take_line      a whole line, on a fresh book
 use Rattle.std.specs.Prelude.{ℕ, ◌+◌, Bool, cond, List, [], ◌∷◌, Some, None, Ok, Err, Option, Result, ◌==◌}
 use Rattle.std.specs.List.{before_first}
 use Rattle.std.specs.Option.{unwrap_or}
 use Rattle.std.specs.Char.{is_ascii_lowercase, is_ascii_uppercase}
-use Rattle.book.specs.Book.{Book, fresh, write, blank}
+use Rattle.book.specs.Book.{Book, fresh_book, write, blank}
 use Rattle.book.specs.declared.slip_fault.SlipFault.{SlipFault}
-use Rattle.sheet.specs.Characters.{case_of, character_of}
+use Rattle.sheet.specs.Characters.{letter_case, read_character}
 use Rattle.sheet.specs.declared.characters.Character.{Character}
 use Rattle.sheet.specs.declared.characters.Character.TheVariants.{Symbol, QuestionMark}
 use Rattle.sheet.specs.declared.characters.Case.{Case}
@@ -23,45 +23,45 @@ before_slash line = before_first (λ byte. byte == 47) line
 -- the case of a line is that of its first letter, small where it has none
 abbrev pub line_case : List ℕ → Case
 line_case [] = Lower
-line_case (byte ∷ bytes) = unwrap_or (case_of byte) (line_case bytes)
+line_case (byte ∷ bytes) = unwrap_or (letter_case byte) (line_case bytes)
 
 -- whether a byte is a letter of the other case
-abbrev pub is_other : Case → ℕ → Bool
-is_other Lower byte = is_ascii_uppercase byte
-is_other Upper byte = is_ascii_lowercase byte
+abbrev pub is_other_case : Case → ℕ → Bool
+is_other_case Lower byte = is_ascii_uppercase byte
+is_other_case Upper byte = is_ascii_lowercase byte
 
 -- what the slip answers to a byte: a refusal is the line's, at that byte
-abbrev pub at_byte : {B : Type 0} → ℕ → Result B SlipFault → Result B LineFault
-at_byte place (Ok b) = Ok b
-at_byte place (Err fault) = Err (OnSlip fault place)
+abbrev pub fault_at_byte : {B : Type 0} → ℕ → Result B SlipFault → Result B LineFault
+fault_at_byte place (Ok b) = Ok b
+fault_at_byte place (Err fault) = Err (OnSlip fault place)
 
 -- a byte by what it says: it has to be of the set, then of the line's case, and then there has to be room;
 -- a question mark is a blank, or outside the set where no blanks are allowed
-abbrev pub entered : Bool → Case → ℕ → ℕ → Option Character → Book → Result Book LineFault
-entered blanks case place byte (Some (Symbol v)) b = cond (is_other case byte) (Err (OtherCase place)) (at_byte place (write v b))
-entered blanks case place byte (Some QuestionMark) b = cond blanks (at_byte place (blank b)) (Err (OutsideSet place))
-entered blanks case place byte None b = Err (OutsideSet place)
+abbrev pub book_after_character : Bool → Case → ℕ → ℕ → Option Character → Book → Result Book LineFault
+book_after_character blanks case place byte (Some (Symbol v)) b = cond (is_other_case case byte) (Err (OtherCase place)) (fault_at_byte place (write v b))
+book_after_character blanks case place byte (Some QuestionMark) b = cond blanks (fault_at_byte place (blank b)) (Err (OutsideSet place))
+book_after_character blanks case place byte None b = Err (OutsideSet place)
 
 -- a space does nothing
-abbrev pub taken : Bool → Case → ℕ → ℕ → Book → Result Book LineFault
-taken blanks case place byte b = cond (byte == 32) (Ok b) (entered blanks case place byte (character_of byte) b)
+abbrev pub book_after_byte : Bool → Case → ℕ → ℕ → Book → Result Book LineFault
+book_after_byte blanks case place byte b = cond (byte == 32) (Ok b) (book_after_character blanks case place byte (read_character byte) b)
 
 abbrev pub and_then : {Fault : Type 0} → Result Book Fault → (Book → Result Book Fault) → Result Book Fault
 and_then (Ok b) next = next b
 and_then (Err fault) next = Err fault
 
 -- bytes one after another, the first being at a place
-abbrev pub taken_all : Bool → Case → ℕ → List ℕ → Book → Result Book LineFault
-taken_all blanks case place [] b = Ok b
-taken_all blanks case place (byte ∷ bytes) b = and_then (taken blanks case place byte b) (taken_all blanks case (place + 1) bytes)
+abbrev pub book_after_bytes : Bool → Case → ℕ → List ℕ → Book → Result Book LineFault
+book_after_bytes blanks case place [] b = Ok b
+book_after_bytes blanks case place (byte ∷ bytes) b = and_then (book_after_byte blanks case place byte b) (book_after_bytes blanks case (place + 1) bytes)
 
 abbrev pub take_groups : Bool → List ℕ → Result Book LineFault
-take_groups blanks groups = taken_all blanks (line_case groups) 0 groups fresh
+take_groups blanks groups = book_after_bytes blanks (line_case groups) 0 groups fresh_book
 
 abbrev pub take_line : Bool → List ℕ → Result Book LineFault
 take_line blanks line = take_groups blanks (before_slash line)
 
 -- an answer with the book that is left
-abbrev pub outcome : Result (Unit {0}) LineFault → Book → Result Book LineFault
-outcome (Ok _) b = Ok b
-outcome (Err fault) b = Err fault
+abbrev pub book_outcome : Result (Unit {0}) LineFault → Book → Result Book LineFault
+book_outcome (Ok _) b = Ok b
+book_outcome (Err fault) b = Err fault

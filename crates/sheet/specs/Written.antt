@@ -1,7 +1,7 @@
 -- What the program `seal` writes for a boat's line: the sealed row, or the refusal.
 use Rattle.std.specs.Prelude.{◌≡◌, ℕ, List, [], ◌∷◌, ◌++◌, decimal, Ok, Err, Result}
 use Rattle.fields.specs.declared.fault.Refusal.{Refusal}
-use Rattle.sheet.specs.Faults.{told}
+use Rattle.sheet.specs.Faults.{line_refusal}
 use Rattle.sheet.specs.Sealed.{sealed_line}
 use Rattle.sheet.specs.declared.fault.LineFault.{LineFault}
 
@@ -15,7 +15,7 @@ refusal_text why = decimal why.number ++ 32 ∷ decimal why.place ++ 10 ∷ []
 
 abbrev pub sealed_text : Result (List ℕ) LineFault → List ℕ
 sealed_text (Ok row) = row_text row
-sealed_text (Err fault) = refusal_text (told fault)
+sealed_text (Err fault) = refusal_text (line_refusal fault)
 
 -- the text for a line does not depend on its number
 abbrev pub SealedText : ℕ → List ℕ → List ℕ → Type 0

@@ -1,6 +1,6 @@
 // Why a typed line is refused.
 ghost use Rattle.std.specs.Prelude.{◌≡◌};
-ghost use Rattle.sheet.specs.Faults.{told};
+ghost use Rattle.sheet.specs.Faults.{line_refusal};
 
 use book::SlipFault;
 use fields::{Layer, Refusal};
@@ -23,7 +23,7 @@ pub enum LineFault {
 
 /// What the line's refusal tells: the slip's keeps its number, and the line adds the byte.
 impl From<LineFault> for Refusal {
-    ghost from_gives = { λ fault r. r ≡ told fault };
+    ghost from_gives = { λ fault r. r ≡ line_refusal fault };
 
     fn from(fault: LineFault) -> Refusal {
         match fault {

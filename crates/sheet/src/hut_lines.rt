@@ -1,17 +1,17 @@
 // A typed line, and its output line.
 ghost use Rattle.std.specs.Prelude.{◌≡◌};
 ghost use Rattle.book.specs.Calls.{Follows, settle};
-ghost use Rattle.sheet.specs.Shown.{OneWay, OnlySays, Shown, finish_rows, shown};
-ghost use Rattle.script.specs.Script.{heard};
+ghost use Rattle.sheet.specs.Shown.{HasOneAnswer, OnlySays, ShowsLine, finish_numeric, report_of};
+ghost use Rattle.script.specs.Script.{book_answer};
 
-use crate::output_line::{Told, write_output_line};
+use crate::output_line::{Report, write_output_line};
 use crate::reading::Reading;
 use crate::reading_off::{read_off, whole_seconds};
 use crate::taking::take_line;
 use checksum::Finish;
 use fields::Refusal;
 use script::run::run;
-use script::{Answer, Ask, CodeSet, Lent, One, Reply, Turn};
+use script::{Answer, Call, CodeSet, Lent, Single, Reply, Step};
 use slip::Slip;
 use std::marker::PhantomData;
 use std::slice;
@@ -25,7 +25,7 @@ const LENT: Lent = Lent {
 /// The output line of a typed line: the line's number, the number of its refusal or 0, how many symbols were changed, the
 /// sail number, and the seconds since midnight. Of a refused line the last three are 0.
 pub fn finish_line(number: usize, line: &[u8]) -> [u8; 31]
-    ensures { Shown finish_rows number line.now result }
+    ensures { ShowsLine finish_numeric number line.now result }
 {
     let told = told_of(number, finish(line));
     let mut text = [0; 31];
@@ -34,18 +34,18 @@ pub fn finish_line(number: usize, line: &[u8]) -> [u8; 31]
 }
 
 // What is told of a line by what it says.
-fn told_of(number: usize, outcome: Result<Reading, Refusal>) -> Told
-    ensures { result ≡ shown number outcome }
+fn told_of(number: usize, outcome: Result<Reading, Refusal>) -> Report
+    ensures { result ≡ report_of number outcome }
 {
     match outcome {
-        Ok(reading) => Told {
+        Ok(reading) => Report {
             line: number,
             refusal: 0,
             changes: reading.changes,
             sail: reading.sail,
             seconds: whole_seconds(reading.tenths),
         },
-        Err(why) => Told {
+        Err(why) => Report {
             line: number,
             refusal: why.number,
             changes: 0,
@@ -57,7 +57,7 @@ fn told_of(number: usize, outcome: Result<Reading, Refusal>) -> Told
 
 // Takes a line onto a slip, settles the slip, and reads it off.
 fn finish(line: &[u8]) -> Result<Reading, Refusal>
-    ensures { OnlySays finish_rows line.now result }
+    ensures { OnlySays finish_numeric line.now result }
 {
     let mut slip = Slip::new();
     take_line(&mut slip, line)?;
@@ -74,20 +74,20 @@ fn finish(line: &[u8]) -> Result<Reading, Refusal>
 
 // Settles a slip by the finish code: a script of one turn, on the only slip.
 fn settle(slip: &mut Slip) -> Reply
-    ensures follows { Follows slip.old (settle finish_rows 16 216) (heard result) slip.new }
-    ensures decided { OneWay finish_rows }
+    ensures follows { Follows slip.old (settle finish_numeric 16 216) (book_answer result) slip.new }
+    ensures decided { HasOneAnswer finish_numeric }
 {
-    let code = One::<Finish> { code: PhantomData };
-    let turns = [Turn {
+    let code = Single::<Finish> { code: PhantomData };
+    let turns = [Step {
         slip: 0,
-        ask: Ask::Settle(code, LENT),
+        ask: Call::Settle(code, LENT),
     }];
     let mut replies = [Ok(Answer::Done)];
     run(
         slice::from_mut(slip),
         &turns,
         &mut replies,
-        &mut One::<Finish>::desk(),
+        &mut Single::<Finish>::desk(),
     );
     replies[0]
 }

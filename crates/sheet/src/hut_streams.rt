@@ -3,7 +3,7 @@ ghost use Rattle.std.specs.Prelude.{ℕ, List, IfSome, OnOk, take};
 ghost use Rattle.std.specs.Io.KnownBytes.{Appends};
 ghost use Rattle.sheet.specs.Lines.{lines_of};
 ghost use Rattle.sheet.specs.Streams.{Streams};
-ghost use Rattle.sheet.specs.Shown.{Shown, Whole, finish_rows};
+ghost use Rattle.sheet.specs.Shown.{ShowsLine, Whole, finish_numeric};
 
 use crate::answering::{Clerk, answer_lines};
 use crate::hut_lines::finish_line;
@@ -17,7 +17,7 @@ use std::io::{Read, Write};
 pub struct FinishClerk;
 
 impl Clerk for FinishClerk {
-    ghost answers = { Shown finish_rows };
+    ghost answers = { ShowsLine finish_numeric };
 
     fn answer<W: Write>(number: usize, line: &[u8], writer: &mut W) -> io::Result<()> {
         write_text(writer, &finish_line(number, line))
@@ -32,12 +32,12 @@ pub fn finish_stream<R: Read, W: Write>(
     writer: &mut W,
 ) -> Result<bool, StreamError>
     // What was read and written, on success and on failure.
-    ensures so_far { Streams (Shown finish_rows) 65536 (R.remaining reader.old) (R.remaining reader.new)
+    ensures so_far { Streams (ShowsLine finish_numeric) 65536 (R.remaining reader.old) (R.remaining reader.new)
         (W.contents writer.old) (W.contents writer.new) result }
 
     // On success the output lines are those of the first 65,536 bytes, of 31 bytes each.
     ensures all { OnOk result (IfSome (R.remaining reader.old) (λ input. (bytes : List ℕ)
-        × Appends (W.contents writer.old) (W.contents writer.new) bytes × Whole finish_rows (lines_of (take 65536 input)) bytes)) }
+        × Appends (W.contents writer.old) (W.contents writer.new) bytes × Whole finish_numeric (lines_of (take 65536 input)) bytes)) }
 {
     answer_lines::<FinishClerk, R, W>(alloc, reader, writer)
 }

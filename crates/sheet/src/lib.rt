@@ -29,7 +29,7 @@ pub use characters::{Case, Character};
 pub use fault::LineFault;
 pub use hut_lines::finish_line;
 pub use hut_streams::{FinishClerk, finish_stream};
-pub use output_line::Told;
+pub use output_line::Report;
 pub use pieces::{Piece, Pieces};
 pub use reading::Reading;
 pub use seal_streams::{SealClerk, seal_stream};

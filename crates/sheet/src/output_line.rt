@@ -7,7 +7,7 @@ use crate::columns::write_column;
 
 /// What is told of one line of a sheet: a number for each column, as the format has them, so 0 where there is no refusal.
 #[derive(Clone, Copy, PartialEq, Eq, Debug)]
-pub struct Told {
+pub struct Report {
     /// The line's number.
     pub line: usize,
     /// The number of its refusal, or 0.
@@ -22,15 +22,15 @@ pub struct Told {
 
 /// Writes the output line: the five numbers in columns of 6, 4, 4, 8 and 8, and a newline. Of a number that is too wide for
 /// its column the low digits are written.
-pub fn write_output_line(told: &Told, text: &mut [u8; 31])
-    ensures { text.new ≡ output_line told.now }
+pub fn write_output_line(report: &Report, text: &mut [u8; 31])
+    ensures { text.new ≡ output_line report.now }
 {
     text[30] = b'\n';
-    put_column(text, 0, 6, told.line as u64);
-    put_column(text, 6, 4, u64::from(told.refusal));
-    put_column(text, 10, 4, told.changes as u64);
-    put_column(text, 14, 8, u64::from(told.sail));
-    put_column(text, 22, 8, u64::from(told.seconds));
+    put_column(text, 0, 6, report.line as u64);
+    put_column(text, 6, 4, u64::from(report.refusal));
+    put_column(text, 10, 4, report.changes as u64);
+    put_column(text, 14, 8, u64::from(report.sail));
+    put_column(text, 22, 8, u64::from(report.seconds));
 }
 
 // Writes a number into a column of the line.

@@ -1,8 +1,8 @@
 // The pieces of a typed line: its groups of characters, and the remark behind the first slash.
 ghost use Rattle.std.specs.Prelude.{◌≡◌, ◌≤◌, length};
 ghost use Rattle.std.specs.Iterator.{YieldsFirstBy, item_count};
-ghost use Rattle.sheet.specs.Pieces.{group_length, pieces, spaces};
-ghost use Rattle.sheet.specs.Cursors.{bytes_of, coming};
+ghost use Rattle.sheet.specs.Pieces.{leading_group, pieces, leading_spaces};
+ghost use Rattle.sheet.specs.Cursors.{bytes_of, remaining_pieces};
 
 /// A piece of a line, as the bytes of the line themselves.
 #[derive(Clone, Copy)]
@@ -21,7 +21,7 @@ pub struct Pieces<'a> {
 
 impl<'a> Pieces<'a> {
     pub fn new(line: &'a [u8]) -> Pieces<'a>
-        ensures { coming result ≡ pieces line.now }
+        ensures { remaining_pieces result ≡ pieces line.now }
     {
         Pieces { rest: line }
     }
@@ -30,9 +30,9 @@ impl<'a> Pieces<'a> {
 impl<'a> Iterator for Pieces<'a> {
     type Item = Piece<'a>;
 
-    ghost next_gives = { YieldsFirstBy bytes_of coming };
+    ghost next_gives = { YieldsFirstBy bytes_of remaining_pieces };
 
-    ghost remaining = { item_count coming };
+    ghost remaining = { item_count remaining_pieces };
 
     fn next(&mut self) -> Option<Piece<'a>> {
         let line = &self.rest[leading_spaces(self.rest)..];
@@ -49,7 +49,7 @@ impl<'a> Iterator for Pieces<'a> {
 
 // How many spaces stand at the front. The search is that of the next function but for its test, one line in each.
 fn leading_spaces(bytes: &[u8]) -> usize
-    ensures value { result ≡ spaces bytes.now }
+    ensures value { result ≡ leading_spaces bytes.now }
     ensures bound { result ≤ length bytes.now }
 {
     bytes
@@ -60,7 +60,7 @@ fn leading_spaces(bytes: &[u8]) -> usize
 
 // How many bytes stand at the front that are neither a space nor a slash.
 fn leading_group(bytes: &[u8]) -> usize
-    ensures value { result ≡ group_length bytes.now }
+    ensures value { result ≡ leading_group bytes.now }
     ensures bound { result ≤ length bytes.now }
 {
     bytes

@@ -1,6 +1,6 @@
 // Why a line of a sheet is refused, with the line's number.
 ghost use Rattle.std.specs.Prelude.{◌≡◌};
-ghost use Rattle.sheet.specs.SheetFaults.{told, told_cause};
+ghost use Rattle.sheet.specs.SheetFaults.{sheet_refusal, cause_refusal};
 ghost use Rattle.sheet.specs.declared.sheet_fault.Cause.TheVariants.{Line as of_line, Code as of_code};
 
 use crate::fault::LineFault;
@@ -16,7 +16,7 @@ pub enum Cause {
 
 /// What the cause's refusal tells.
 impl From<Cause> for Refusal {
-    ghost from_gives = { λ cause r. r ≡ told_cause cause };
+    ghost from_gives = { λ cause r. r ≡ cause_refusal cause };
 
     fn from(cause: Cause) -> Refusal {
         match cause {
@@ -51,7 +51,7 @@ pub struct SheetFault {
 
 /// What the sheet's refusal tells: the cause keeps its number and its place.
 impl From<SheetFault> for Refusal {
-    ghost from_gives = { λ fault r. r ≡ told fault };
+    ghost from_gives = { λ fault r. r ≡ sheet_refusal fault };
 
     fn from(fault: SheetFault) -> Refusal {
         Refusal {

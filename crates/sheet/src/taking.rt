@@ -1,8 +1,8 @@
 // A typed line, taken onto a slip.
 ghost use Rattle.std.specs.Prelude.{◌≡◌, true, false, [], ◌∷◌, Ok, Err};
 ghost use Rattle.sheet.specs.Calls.{all_done, calls_of};
-ghost use Rattle.sheet.specs.Taking.{before_slash, is_other, line_case, outcome, taken, taken_all, take_line};
-ghost use Rattle.book.specs.Book.{after, answer, fresh};
+ghost use Rattle.sheet.specs.Taking.{before_slash, is_other_case, line_case, book_outcome, book_after_byte, book_after_bytes, take_line};
+ghost use Rattle.book.specs.Book.{book_after, answer_of, fresh_book};
 ghost use Rattle.book.specs.Calls.{done, wipe};
 ghost use Rattle.book.specs.Story.{Leads};
 
@@ -13,8 +13,8 @@ use slip::Slip;
 /// Takes a typed line onto a slip: wipes it, then writes each character of the line's groups, a question mark as a blank. The
 /// first bad byte refuses the line and leaves the slip empty.
 pub fn take_line(slip: &mut Slip, line: &[u8]) -> Result<(), LineFault>
-    ensures answer { result ≡ answer (take_line true line.now) }
-    ensures book { slip.new ≡ after fresh (take_line true line.now) }
+    ensures answer { result ≡ answer_of (take_line true line.now) }
+    ensures book { slip.new ≡ book_after fresh_book (take_line true line.now) }
     ensures leads { result ≡ Ok tt → Leads slip.old (all_done (calls_of line.now)) slip.new }
     ensures wiped { (fault : LineFault) → result ≡ Err fault
         → Leads slip.old ((wipe, done) ∷ []) slip.new }
@@ -24,16 +24,16 @@ pub fn take_line(slip: &mut Slip, line: &[u8]) -> Result<(), LineFault>
 
 /// Takes a line in which nothing is unknown: a question mark is refused as a byte outside the set.
 pub fn take_known_line(slip: &mut Slip, line: &[u8]) -> Result<(), LineFault>
-    ensures answer { result ≡ answer (take_line false line.now) }
-    ensures book { slip.new ≡ after fresh (take_line false line.now) }
+    ensures answer { result ≡ answer_of (take_line false line.now) }
+    ensures book { slip.new ≡ book_after fresh_book (take_line false line.now) }
 {
     take(slip, line, false)
 }
 
 // Whether a line may hold blanks is a bool, as in the clauses: the two functions above give each choice its name.
 fn take(slip: &mut Slip, line: &[u8], blanks: bool) -> Result<(), LineFault>
-    ensures answer { result ≡ answer (take_line blanks line.now) }
-    ensures book { slip.new ≡ after fresh (take_line blanks line.now) }
+    ensures answer { result ≡ answer_of (take_line blanks line.now) }
+    ensures book { slip.new ≡ book_after fresh_book (take_line blanks line.now) }
 {
     slip.wipe();
     let groups = before_slash(line);
@@ -65,7 +65,7 @@ pub(crate) fn line_case(line: &[u8]) -> Case
 }
 
 fn take_groups(slip: &mut Slip, groups: &[u8], case: Case, blanks: bool) -> Result<(), LineFault>
-    ensures { outcome result slip.new ≡ taken_all blanks case 0 groups.now slip.old }
+    ensures { book_outcome result slip.new ≡ book_after_bytes blanks case 0 groups.now slip.old }
 {
     for (place, byte) in groups.iter().enumerate() {
         take_byte(slip, *byte, place, case, blanks)?;
@@ -81,7 +81,7 @@ fn take_byte(
     case: Case,
     blanks: bool,
 ) -> Result<(), LineFault>
-    ensures { outcome result slip.new ≡ taken blanks case place byte slip.old }
+    ensures { book_outcome result slip.new ≡ book_after_byte blanks case place byte slip.old }
 {
     if byte == b' ' {
         return Ok(());
@@ -99,7 +99,7 @@ fn take_byte(
 }
 
 fn is_other_case(byte: u8, case: Case) -> bool
-    ensures { result ≡ is_other case byte }
+    ensures { result ≡ is_other_case case byte }
 {
     letter_case(byte).is_some_and(|own| own != case)
 }

@@ -1,9 +1,9 @@
 // A slip: the symbols of a row as they come in, in fixed memory.
 ghost use Rattle.std.specs.Prelude.{◌≡◌, ℕ, ◌<◌, length, slice_index, ◌+◌, ◌≤◌, ◌++◌, map, Ok, [], ◌∷◌};
-ghost use Rattle.book.specs.Book.{answer, after, write, blank, doubt, fresh, row, marks, symbol_at, doubted_at, doubts, sure};
-ghost use Rattle.slip.specs.View.{Holdable, at};
-ghost use Rattle.algebra.specs.Code.{checks, residue, Sound};
-ghost use Rattle.slip.specs.Sealing.{check_symbols, elements, seal};
+ghost use Rattle.book.specs.Book.{answer_of, book_after, write, blank, doubt, fresh_book, row, marks, symbol_at, doubted_at, doubts, undoubted_place};
+ghost use Rattle.slip.specs.View.{IsHoldable, place_at};
+ghost use Rattle.algebra.specs.Code.{checks, residue, IsSoundRow};
+ghost use Rattle.slip.specs.Sealing.{check_symbols, elements_of, sealed_book};
 
 use book::{CodeFault, SlipFault};
 use checksum::symbols::{element, number};
@@ -26,17 +26,17 @@ impl Model for Slip {
 
     ghost Value = { Book };
 
-    ghost use Rattle.slip.specs.View.{book_of, Filled};
+    ghost use Rattle.slip.specs.View.{book_of, IsFilled};
 
     ghost view = { book_of };
 
-    ghost invariant = { Filled };
+    ghost invariant = { IsFilled };
 }
 
 impl Slip {
     /// A fresh slip, which holds nothing.
     pub fn new() -> Slip
-        ensures { result ≡ fresh }
+        ensures { result ≡ fresh_book }
     {
         Slip {
             symbols: [0; 89],
@@ -48,8 +48,8 @@ impl Slip {
     /// Appends a symbol, undoubted.
     #[tactic(auto, using(crate::proofs::Memory::steps))]
     pub fn write(&mut self, v: u8) -> Result<(), SlipFault>
-        ensures answer { result ≡ answer (write v self.old) }
-        ensures book { self.new ≡ after self.old (write v self.old) }
+        ensures answer { result ≡ answer_of (write v self.old) }
+        ensures book { self.new ≡ book_after self.old (write v self.old) }
     {
         if v > 31 {
             return Err(SlipFault::Symbol);
@@ -64,8 +64,8 @@ impl Slip {
     /// Appends a place whose symbol was not understood: 0, doubted.
     #[tactic(auto, using(crate::proofs::Memory::steps))]
     pub fn blank(&mut self) -> Result<(), SlipFault>
-        ensures answer { result ≡ answer (blank self.old) }
-        ensures book { self.new ≡ after self.old (blank self.old) }
+        ensures answer { result ≡ answer_of (blank self.old) }
+        ensures book { self.new ≡ book_after self.old (blank self.old) }
     {
         if self.len >= 89 {
             return Err(SlipFault::Full);
@@ -77,8 +77,8 @@ impl Slip {
     /// Marks a place as doubted. A place that is doubted already stays so.
     #[tactic(auto, using(crate::proofs::Memory::steps))]
     pub fn doubt(&mut self, place: usize) -> Result<(), SlipFault>
-        ensures answer { result ≡ answer (doubt place self.old) }
-        ensures book { self.new ≡ after self.old (doubt place self.old) }
+        ensures answer { result ≡ answer_of (doubt place self.old) }
+        ensures book { self.new ≡ book_after self.old (doubt place self.old) }
     {
         if place >= self.len {
             return Err(SlipFault::Absent(place));
@@ -89,7 +89,7 @@ impl Slip {
 
     /// Empties the slip.
     pub fn wipe(&mut self)
-        ensures { self.new ≡ fresh }
+        ensures { self.new ≡ fresh_book }
     {
         self.len = 0;
     }
@@ -100,7 +100,7 @@ impl Slip {
     #[tactic(auto, using(crate::proofs::Memory::steps))]
     pub fn len(&self) -> usize
         ensures len { result ≡ length self.now }
-        ensures holdable { Holdable self.now }
+        ensures holdable { IsHoldable self.now }
     {
         self.len
     }
@@ -131,7 +131,7 @@ impl Slip {
     #[tactic(auto, using(crate::proofs::Memory::steps))]
     pub fn symbols(&self) -> &[u8]
         ensures row { result.now ≡ row self.now }
-        ensures holdable { Holdable self.now }
+        ensures holdable { IsHoldable self.now }
         ensures below { (k : ℕ) → slice_index result.now k < 32 }
     {
         &self.symbols[..self.len]
@@ -141,7 +141,7 @@ impl Slip {
     #[tactic(auto, using(crate::proofs::Memory::steps))]
     pub fn marks(&self) -> &[bool]
         ensures marks { result.now ≡ marks self.now }
-        ensures holdable { Holdable self.now }
+        ensures holdable { IsHoldable self.now }
     {
         &self.doubted[..self.len]
     }
@@ -151,10 +151,10 @@ impl Slip {
     /// Seal: appends the k check symbols, undoubted, that make the row sound by the code.
     #[tactic(auto, using(crate::proofs::Memory::steps))]
     pub fn seal<C: Checksum>(&mut self) -> Result<(), CodeFault>
-        ensures answer { result ≡ answer (seal C.SymbolField.numbers C.SymbolField.field C.code self.old) }
-        ensures book { self.new ≡ after self.old (seal C.SymbolField.numbers C.SymbolField.field C.code self.old) }
-        ensures holdable { Holdable self.old }
-        ensures sound { result ≡ Ok tt → Sound C.SymbolField.field C.code (elements C.SymbolField.numbers (row self.new)) }
+        ensures answer { result ≡ answer_of (sealed_book C.SymbolField.numbers C.SymbolField.field C.code self.old) }
+        ensures book { self.new ≡ book_after self.old (sealed_book C.SymbolField.numbers C.SymbolField.field C.code self.old) }
+        ensures holdable { IsHoldable self.old }
+        ensures sound { result ≡ Ok tt → IsSoundRow C.SymbolField.field C.code (elements_of C.SymbolField.numbers (row self.new)) }
     {
         C::laws();
         if self.len == 0 {
@@ -170,7 +170,7 @@ impl Slip {
     /// The code's engine after the slip's row.
     #[tactic(auto, using(crate::proofs::Sealing::residue_steps))]
     pub fn engine<C: Checksum>(&self) -> Engine<C>
-        ensures { result ≡ residue C.SymbolField.field C.code (elements C.SymbolField.numbers (row self.now)) }
+        ensures { result ≡ residue C.SymbolField.field C.code (elements_of C.SymbolField.numbers (row self.now)) }
     {
         C::SymbolField::small();
         let symbols = self.symbols();
@@ -185,10 +185,10 @@ impl Slip {
     #[tactic(auto, using(checksum::proofs::Sizes::engine_fits))]
     fn append_checks<C: Checksum>(&mut self)
         requires { length self.old + checks C.code ≤ 89 }
-        ensures { self.new ≡ self.old ++ map sure (check_symbols C.SymbolField.numbers C.SymbolField.field C.code (row self.old)) }
+        ensures { self.new ≡ self.old ++ map undoubted_place (check_symbols C.SymbolField.numbers C.SymbolField.field C.code (row self.old)) }
     {
         C::SymbolField::small();
-        let checks = self.engine::<C>().closing();
+        let checks = self.engine::<C>().completion();
         for symbol in checks.symbols() {
             self.push(number::<C>(*symbol), false);
         }
@@ -201,7 +201,7 @@ impl Slip {
     fn push(&mut self, symbol: u8, doubted: bool)
         requires small { symbol < 32 }
         requires room { length self.old < 89 }
-        ensures { self.new ≡ self.old ++ at symbol doubted ∷ [] }
+        ensures { self.new ≡ self.old ++ place_at symbol doubted ∷ [] }
     {
         self.symbols[self.len] = symbol;
         self.doubted[self.len] = doubted;

@@ -1,13 +1,13 @@
--- What the checker asks of a list of records, but for the soundness of the row that it leads to. Assumes nothing.
+-- What the checker asks of a list of records, but for the soundness of the row that it leads to.
 --   Admits     one record can be part of a pattern
---   Sensible   each can, and no place is named twice
+--   IsSensible   each can, and no place is named twice
 --   Covers     each doubted place is named
---   Formed     all of it, within the bound
+--   IsFormed   all of it, within the bound
 use Rattle.std.specs.Prelude.{◌≡◌, ℕ, ◌+◌, ◌*◌, ◌<◌, ◌≤◌, true, false, List, [], ◌∷◌, length}
 use Rattle.algebra.specs.NumericCode.{NumericCode}
 use Rattle.algebra.specs.Series.{Mem}
 use Rattle.book.specs.Book.{Book, doubts, doubted_at}
-use Rattle.book.specs.Mending.{places, elsewhere}
+use Rattle.book.specs.Mending.{record_places, undoubted_count}
 use Rattle.book.specs.declared.record.Record.{Record}
 
 module _ (b : Book) (size nothing : ℕ) where
@@ -16,14 +16,14 @@ module _ (b : Book) (size nothing : ℕ) where
     pub symbol : c.change < size
     pub changed : doubted_at c.place b ≡ false → ¬ (c.change ≡ nothing)
 
-  abbrev pub Sensible : List Record → Type 0
-  Sensible [] = Unit {0}
-  Sensible (c ∷ cs) = Admits c × (¬ Mem c.place (places cs)) × Sensible cs
+  abbrev pub IsSensible : List Record → Type 0
+  IsSensible [] = Unit {0}
+  IsSensible (c ∷ cs) = Admits c × (¬ Mem c.place (record_places cs)) × IsSensible cs
 
 abbrev pub Covers : Book → List Record → Type 0
-Covers b cs = (p : ℕ) → doubted_at p b ≡ true → Mem p (places cs)
+Covers b cs = (p : ℕ) → doubted_at p b ≡ true → Mem p (record_places cs)
 
-pub record Formed (C : NumericCode) (b : Book) (cs : List Record) : Type 0 where
-  pub sensible : Sensible b C.size C.zero cs
+pub record IsFormed (C : NumericCode) (b : Book) (cs : List Record) : Type 0 where
+  pub sensible : IsSensible b C.size C.zero cs
   pub covers : Covers b cs
-  pub within : 2 * elsewhere b cs + doubts b ≤ C.bound
+  pub within : 2 * undoubted_count b cs + doubts b ≤ C.bound

@@ -1,7 +1,7 @@
 // GF(1024) is a field above GF(32).
 ghost use Rattle.std.specs.Prelude.{refl};
 ghost use Rattle.fields.specs.Gf1024.{gf1024, gf1024_numbers, gf1024_generator, lift1024, fe1024_decides};
-ghost use Rattle.fields.specs.Laws1024.{gf1024_cyclic, gf1024_doubling};
+ghost use Rattle.fields.specs.Laws1024.{gf1024_cyclic, gf1024_characteristic_two};
 ghost use Rattle.std.proofs.lemmas.Bool.Decides.{Decides-at};
 
 use super::Fe1024;
@@ -48,7 +48,7 @@ impl Field for Fe1024 {
 
     ghost cyclic = { gf1024_cyclic };
 
-    ghost doubling = { gf1024_doubling };
+    ghost characteristic_two = { gf1024_characteristic_two };
 
     ghost equality = { λ x y b e. Decides-at _ _ e (fe1024_decides x y) };
 

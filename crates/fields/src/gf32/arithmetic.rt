@@ -1,7 +1,7 @@
 // GF(32) is a field, and a field above itself. Products and inverses go by logarithms to the base t.
 ghost use Rattle.std.specs.Prelude.{refl};
 ghost use Rattle.fields.specs.Gf32.{gf32, gf32_numbers, gf32_generator, fe_decides};
-ghost use Rattle.fields.specs.Cyclic.{gf32_cyclic, gf32_doubling};
+ghost use Rattle.fields.specs.Cyclic.{gf32_cyclic, gf32_characteristic_two};
 ghost use Rattle.std.proofs.lemmas.Bool.Decides.{Decides-at};
 
 use super::Fe32;
@@ -42,7 +42,7 @@ impl Field for Fe32 {
 
     ghost cyclic = { gf32_cyclic };
 
-    ghost doubling = { gf32_doubling };
+    ghost characteristic_two = { gf32_characteristic_two };
 
     ghost equality = { λ x y b e. Decides-at _ _ e (fe_decides x y) };
 

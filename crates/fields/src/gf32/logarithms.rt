@@ -1,6 +1,6 @@
 // Logarithms in GF(32), to the base t.
 ghost use Rattle.std.specs.Prelude.{◌≡◌, ◌<◌};
-ghost use Rattle.fields.specs.Binary.{power};
+ghost use Rattle.fields.specs.Binary.{binary_power};
 
 use super::Fe32;
 
@@ -18,14 +18,14 @@ const LOG_INV: [u8; 31] = [
 
 pub(super) fn logarithm(x: Fe32) -> usize
     ensures below { result < 31 }
-    ensures power { ¬ (x.value ≡ 0) → power 2 result ≡ x.value }
+    ensures power { ¬ (x.value ≡ 0) → binary_power 2 result ≡ x.value }
 {
     LOG[x.value as usize]
 }
 
 pub(super) fn power_of_t(exponent: usize) -> Fe32
     requires { exponent < 31 }
-    ensures { result.value ≡ power 2 exponent }
+    ensures { result.value ≡ binary_power 2 exponent }
 {
     Fe32 {
         value: LOG_INV[exponent],

@@ -1,7 +1,7 @@
 // GF(32768) is a field above GF(32).
 ghost use Rattle.std.specs.Prelude.{refl};
 ghost use Rattle.fields.specs.Gf32768.{gf32768, gf32768_numbers, gf32768_generator, lift32768, fe32768_decides};
-ghost use Rattle.fields.specs.Laws32768.{gf32768_cyclic, gf32768_doubling};
+ghost use Rattle.fields.specs.Laws32768.{gf32768_cyclic, gf32768_characteristic_two};
 ghost use Rattle.std.proofs.lemmas.Bool.Decides.{Decides-at};
 
 use super::Fe32768;
@@ -51,7 +51,7 @@ impl Field for Fe32768 {
 
     ghost cyclic = { gf32768_cyclic };
 
-    ghost doubling = { gf32768_doubling };
+    ghost characteristic_two = { gf32768_characteristic_two };
 
     ghost equality = { λ x y b e. Decides-at _ _ e (fe32768_decides x y) };
 

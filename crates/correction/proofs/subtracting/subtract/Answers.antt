@@ -11,7 +11,7 @@ loop-record-preserved g c =
     let l = c.loop-record in
     elim c.if-record-symbols.branch [
       | then-record-symbols w ↦ record {
-        same = rw w.symbols-is (subtract_more C rs l.record-index l.symbols _ c.loop-record-test.true l.invariant.same w.less.result w.less.ensures.less);
+        same = rw w.symbols-is (subtract_more C rs l.record-index l.symbols _ c.loop-record-test.true l.invariant.same w.sub.result w.sub.ensures.sub);
         below = grind (arith, common_steps);
       }
       | else-record-symbols w ↦ record {

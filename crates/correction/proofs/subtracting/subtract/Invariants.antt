@@ -1,5 +1,5 @@
 use Rattle.std.proofs.Common.{◌≡◌, ◌<◌, All, drop}
-use Rattle.book.specs.Mending.{subtracted}
+use Rattle.book.specs.Mending.{row_less}
 use Rattle.correction.proofs.subtracting.subtract.Given as goal
 
 -- what is left to subtract leads to the same row
@@ -7,6 +7,6 @@ abbrev pub invariant-loop-record : goal.invariant-loop-record
 invariant-loop-record g l =
     let C = g.C.Checksum.rows in
     record {
-      same : subtracted C (drop l.record-index l.records) l.symbols ≡ subtracted C l.records l.initial.symbols;
+      same : row_less C (drop l.record-index l.records) l.symbols ≡ row_less C l.records l.initial.symbols;
       below : All (λ v. v < C.size) l.symbols;
     }

@@ -2,7 +2,7 @@ use Rattle.std.proofs.Common.{◌≡◌, ◌+◌, ◌-◌, ◌++◌, length, tak
 use Rattle.std.proofs.lemmas.List.{length-take-le}
 use Rattle.std.proofs.lemmas.Slice.{take-put_mid, drop-put_mid}
 use borrow.Rule.Slice.PartMut.{put_mid}
-use Rattle.algebra.specs.Register.{change}
+use Rattle.algebra.specs.Register.{updated_list}
 use Rattle.lists.proofs.Grown.{change_grown}
 use Rattle.lists.proofs.lfsr.grow.Goals as goal
 
@@ -20,6 +20,6 @@ returns-clause-list g c =
     let zeros : zs ≡ replicate n F.𝟘 = cc in
     let front : take grown (put_mid len n conn zs) ≡ take len conn ++ replicate n F.𝟘
     = take-put_mid len n conn zs grown (omega arith) (omega arith) ∙ ap (λ l. take len conn ++ l) zeros in
-    ap₂ ◌++◌ (c.subtract_shifted.ensures ∙ ap (λ p. change F p c.args.c c.args.x (take c.args.old_len c.args.old.now)) front
+    ap₂ ◌++◌ (c.subtract_shifted.ensures ∙ ap (λ p. updated_list F p c.args.c c.args.x (take c.args.old_len c.args.old.now)) front
     ∙ change_grown F (take len conn) c.args.c c.args.x (take c.args.old_len c.args.old.now) n (omega arith))
     (drop-put_mid len n conn zs grown (omega arith) (omega arith) lz)

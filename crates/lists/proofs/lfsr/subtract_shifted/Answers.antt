@@ -1,6 +1,6 @@
 use Rattle.std.proofs.Common.{◌+◌, ◌-◌, ◌≤◌, length, drop, sym, ap, ◌∙◌, ap₂, arith, take_all}
 use Rattle.std.proofs.lemmas.List.{length-take-le, length-drop}
-use Rattle.algebra.specs.Register.{change}
+use Rattle.algebra.specs.Register.{updated_list}
 use Rattle.lists.proofs.Shifted.{shifted_none, shifted_more}
 use Rattle.lists.proofs.lfsr.subtract_shifted.Goals as goal
 
@@ -32,4 +32,4 @@ returns g c =
     let rest = length-drop x c.args.conn.now in
     let size = length-take-le n part (omega arith) in
     let all : length o ≤ c.loop-i.i = omega arith in
-    c.loop-i.invariant ∙ ap (change F c.args.conn.now c.args.c x) (take_all c.loop-i.i o all)
+    c.loop-i.invariant ∙ ap (updated_list F c.args.conn.now c.args.c x) (take_all c.loop-i.i o all)

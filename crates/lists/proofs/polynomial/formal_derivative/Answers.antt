@@ -2,7 +2,7 @@ use Rattle.std.proofs.Common.{◌≡◌, suc, ◌+◌, ◌<◌, length, refl, ap
 use Rattle.std.proofs.lemmas.List.{get_or_default, length-take-le}
 use Rattle.algebra.specs.Field.{multiple}
 use Rattle.algebra.specs.Poly.{tab, coeff}
-use Rattle.lists.specs.Lists.{derivative}
+use Rattle.lists.specs.Lists.{formal_derivative}
 use Rattle.lists.proofs.Degrees.{degree_below, derived, length_derivative}
 use Rattle.lists.proofs.Fronts.{front_filled}
 use Rattle.lists.proofs.Filled.{filled_more, refuses, refuses_list, accepts, accepts_list}
@@ -15,8 +15,8 @@ returns-in_err-n g c =
     let old = c.args.out.now in
     let size = c.top_power.ensures ∙ length_derivative F p in
     record {
-      answer = refuses (length p) (derivative F p) old c.admit.result (length p) c.top_power.result c.admit.ensures.answer refl size c.in_err-n.field-0.0 c.in_err-n.was c.from_residual.result c.from_residual.ensures.1;
-      answered = refuses_list (length p) (derivative F p) old c.admit.result (length p) c.top_power.result c.admit.ensures.answer refl size c.in_err-n.field-0.0 c.in_err-n.was;
+      answer = refuses (length p) (formal_derivative F p) old c.admit.result (length p) c.top_power.result c.admit.ensures.answer refl size c.in_err-n.field-0.0 c.in_err-n.was c.from_residual.result c.from_residual.ensures.1;
+      answered = refuses_list (length p) (formal_derivative F p) old c.admit.result (length p) c.top_power.result c.admit.ensures.answer refl size c.in_err-n.field-0.0 c.in_err-n.was;
     }
 
 pub offset_bounds-list-i : goal.offset_bounds-list-i
@@ -54,8 +54,8 @@ returns g c =
     let front = length-take-le n old holds.1 in
     let all : c.loop-i.i ≡ n = omega arith in
     record {
-      answer = accepts (length p) (derivative F p) old c.admit.result (length p) c.top_power.result c.admit.ensures.answer refl size n c.in_ok-n.was;
+      answer = accepts (length p) (formal_derivative F p) old c.admit.result (length p) c.top_power.result c.admit.ensures.answer refl size n c.in_ok-n.was;
       answered =
-          accepts_list (length p) (derivative F p) old c.admit.result (length p) c.top_power.result c.admit.ensures.answer refl size n _ c.in_ok-n.was
-          (front_filled (derived F p) c.loop-i.i n (derivative F p) old c.loop-i.entry-items holds.1 all (ap (λ m. tab m (derived F p)) (holds.0 ∙ c.top_power.ensures)) c.loop-i.invariant);
+          accepts_list (length p) (formal_derivative F p) old c.admit.result (length p) c.top_power.result c.admit.ensures.answer refl size n _ c.in_ok-n.was
+          (front_filled (derived F p) c.loop-i.i n (formal_derivative F p) old c.loop-i.entry-items holds.1 all (ap (λ m. tab m (derived F p)) (holds.0 ∙ c.top_power.ensures)) c.loop-i.invariant);
     }

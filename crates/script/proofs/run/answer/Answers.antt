@@ -24,7 +24,7 @@ returns-in_err-doubt-in-Doubt g c =
 
 pub returns : goal.returns
 returns g c =
-    elim c.match-ask.branch [
+    elim c.match-call.branch [
       | in-Write+in_ok-write-in-Write w ↦ simp (w.in-Write.is, w.slip-is) (wrote _ _ _ (Ok tt) refl w.in-Write.v w.in_ok-write-in-Write.ensures.answer w.in_ok-write-in-Write.ensures.book)
       | in-Blank+in_ok-blank-in-Blank w ↦ simp (w.in-Blank.is, w.slip-is) (blanked _ _ _ (Ok tt) refl w.in_ok-blank-in-Blank.ensures.answer w.in_ok-blank-in-Blank.ensures.book)
       | in-Doubt+in_ok-doubt-in-Doubt w ↦ simp (w.in-Doubt.is, w.slip-is) (doubted _ _ _ (Ok tt) refl w.in-Doubt.place w.in_ok-doubt-in-Doubt.ensures.answer w.in_ok-doubt-in-Doubt.ensures.book)

@@ -2,7 +2,7 @@ use Rattle.std.proofs.Common.{true}
 use Rattle.std.proofs.lemmas.Result.{err_from_is_err_and}
 use Rattle.sheet.specs.Taking.{take_line}
 use Rattle.sheet.proofs.BytesTaken.{accepted, refused}
-use Rattle.sheet.specs.Shown.{finish_rows, not_mended}
+use Rattle.sheet.specs.Shown.{finish_numeric, not_mended}
 use Rattle.sheet.proofs.Saying.{only, only_read, only_refused, only_unread, settle_refused, settle_not_done}
 use Rattle.sheet.proofs.hut_lines.finish.Goals as goal
 
@@ -10,7 +10,7 @@ pub returns-in_err-take_line : goal.returns-in_err-take_line
 returns-in_err-take_line c =
     let line = c.args.line.now in
     let p = err_from_is_err_and c.from_residual.result c.from_residual.ensures.1 in
-    rw (p.1, p.2) (only_refused finish_rows line _ (refused (take_line true line) _ c.in_err-take_line.ensures.answer))
+    rw (p.1, p.2) (only_refused finish_numeric line _ (refused (take_line true line) _ c.in_err-take_line.ensures.answer))
 
 pub returns-in_err-listing : goal.returns-in_err-listing
 returns-in_err-listing c =
@@ -20,7 +20,7 @@ returns-in_err-listing c =
     let taken = accepted (take_line true line) b told.answer told.book in
     let settled = c.in_err-listing.ensures in
     let p = err_from_is_err_and c.from_residual-in_err-listing.result c.from_residual-in_err-listing.ensures.1 in
-    rw (p.1, p.2) (only finish_rows settled.decided line b taken _ (not_mended taken (settle_refused settled.follows)))
+    rw (p.1, p.2) (only finish_numeric settled.decided line b taken _ (not_mended taken (settle_refused settled.follows)))
 
 pub unreachable-requires : goal.unreachable-requires
 unreachable-requires c = settle_not_done (rw c.in_default.is at c.in_ok-listing.ensures.follows)
@@ -33,7 +33,7 @@ returns-in_err-sail c =
     let taken = accepted (take_line true line) b told.answer told.book in
     let follows = rw c.in-Listed.is at c.in_ok-listing.ensures.follows in
     let p = err_from_is_err_and c.from_residual-in_err-sail.result c.from_residual-in_err-sail.ensures.1 in
-    rw (p.1, p.2) (only_unread finish_rows c.settle.ensures.decided line b taken follows _ c.symbols.ensures.row _ c.in_err-sail.ensures)
+    rw (p.1, p.2) (only_unread finish_numeric c.settle.ensures.decided line b taken follows _ c.symbols.ensures.row _ c.in_err-sail.ensures)
 
 pub returns : goal.returns
 returns c =
@@ -43,4 +43,4 @@ returns c =
     let taken = accepted (take_line true line) b told.answer told.book in
     let follows = rw c.in-Listed.is at c.in_ok-listing.ensures.follows in
     rw c.nonzero.ensures
-    (only_read finish_rows c.settle.ensures.decided line b taken follows _ c.symbols.ensures.row _ _ c.in_ok-sail.ensures)
+    (only_read finish_numeric c.settle.ensures.decided line b taken follows _ c.symbols.ensures.row _ _ c.in_ok-sail.ensures)

@@ -1,11 +1,11 @@
 use Rattle.std.proofs.Common.{◌≡◌, ℕ, ◌-◌, List, length, take, drop, ap, ◌∙◌, rules}
 use Rattle.std.proofs.lemmas.List.{take_rest}
-use Rattle.sheet.specs.Pieces.{spaces}
+use Rattle.sheet.specs.Pieces.{leading_spaces}
 use Rattle.sheet.proofs.Cuts.{no_piece, a_remark, a_group}
 use Rattle.sheet.proofs.pieces.PiecesIterator.next.Goals as goal
 
 -- what stands behind the spaces at the front
-past_spaces : (line : List ℕ) (start : ℕ) → start ≡ spaces line → take (length line - start) (drop start line) ≡ drop (spaces line) line
+past_spaces : (line : List ℕ) (start : ℕ) → start ≡ leading_spaces line → take (length line - start) (drop start line) ≡ drop (leading_spaces line) line
 past_spaces line start e = take_rest line start ∙ ap (λ (i : ℕ). drop i line) e
 
 pub returns-in_err-first-clause-steps : goal.returns-in_err-first-clause-steps
