@@ -101,7 +101,7 @@ impl<C: Checksum> CodeSet for Single<C> {
         slip.seal::<C>()
     }
 
-    // What is lent past the desk's end makes no difference: no code asks for it.
+    // What is lent past the workspace's end makes no difference: no code asks for it.
     fn solve(
         self,
         slip: &Slip,

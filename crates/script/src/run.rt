@@ -12,8 +12,8 @@ use book::{BLANK, CodeFault, Record};
 use correction::Pattern;
 use slip::Slip;
 
-/// Runs a script: makes the turns' calls one after another, each on the slip that its step names, and puts each answer
-/// at its turn's place among the replies. A step that names no slip is passed over; where replies are fewer than steps,
+/// Runs a script: makes the calls of the steps one after another, each on the slip that its step names, and puts each answer
+/// at its step's place among the replies. A step that names no slip is passed over; where replies are fewer than steps,
 /// the script stops there.
 ///
 /// For each slip, the calls on it and their replies lead from the book that it held to the book that it holds; from

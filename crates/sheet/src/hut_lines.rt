@@ -72,22 +72,22 @@ fn finish(line: &[u8]) -> Result<Reading, Refusal>
     })
 }
 
-// Settles a slip by the finish code: a script of one turn, on the only slip.
+// Settles a slip by the finish code: a script of one step, on the only slip.
 fn settle(slip: &mut Slip) -> Reply
     ensures follows { Follows slip.old (settle finish_numeric 16 216) (book_answer result) slip.new }
     ensures decided { HasOneAnswer finish_numeric }
 {
     let code = Single::<Finish> { code: PhantomData };
-    let turns = [Step {
+    let steps = [Step {
         slip: 0,
         ask: Call::Settle(code, LENT),
     }];
     let mut replies = [Ok(Answer::Done)];
     run(
         slice::from_mut(slip),
-        &turns,
+        &steps,
         &mut replies,
-        &mut Single::<Finish>::desk(),
+        &mut Single::<Finish>::workspace(),
     );
     replies[0]
 }
