@@ -1,7 +1,7 @@
 use Rattle.std.proofs.Common.{◌∙◌, inl, inr, arith}
 use Rattle.fields.proofs.Monoids.{turns}
-use Rattle.fields.proofs.monoid.repeated.Goals as goal
-use Rattle.fields.proofs.monoid.repeated.Goals.{then-left-eq1, else-left-eq1}
+use Rattle.fields.proofs.monoid.repeat.Goals as goal
+use Rattle.fields.proofs.monoid.repeat.Goals.{then-left-eq1, else-left-eq1}
 
 pub loop-left-preserved : goal.loop-left-preserved
 loop-left-preserved g c =

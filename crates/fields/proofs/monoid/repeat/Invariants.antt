@@ -1,6 +1,6 @@
 use Rattle.std.proofs.Common.{◌≡◌}
 use Rattle.fields.specs.Monoid.{repeat}
-use Rattle.fields.proofs.monoid.repeated.Given as goal
+use Rattle.fields.proofs.monoid.repeat.Given as goal
 
 abbrev pub invariant-loop-left : goal.invariant-loop-left
 invariant-loop-left g l =
