@@ -4,8 +4,8 @@ ghost use Rattle.std.specs.Io.KnownBytes.{Appends};
 ghost use Rattle.lines.specs.Lines.{lines_of};
 ghost use Rattle.lines.specs.Streams.{AnswersAll, Streams, WritesAnswer};
 
-use crate::reading::read_line;
 use crate::fault::StreamError;
+use crate::reading::read_line;
 use std::alloc::Global;
 use std::io;
 use std::io::{Read, Write};

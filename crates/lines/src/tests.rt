@@ -2,8 +2,8 @@
 ghost use Rattle.std.specs.Prelude.{⊤};
 
 use crate::answering::{Clerk, INPUT_BYTES, answer_lines};
-use crate::reading::has_more;
 use crate::fault::StreamError;
+use crate::reading::has_more;
 use crate::writing::write_text;
 use std::io;
 use std::io::{BufReader, ErrorKind, Read, Write};
