@@ -6,7 +6,7 @@ use book::{BLANK, Record};
 use checksum::Finish;
 use correction::lengths::{MOST_RECORDS, MOST_WORK};
 use correction::settle;
-use fields::{Fe32, Refusal};
+use fields::{Fe32, Field, Refusal};
 use slip::Slip;
 use std::io;
 use std::io::Write;
