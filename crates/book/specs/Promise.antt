@@ -1,14 +1,14 @@
 -- What is promised of solve and settle by a code.
 use Rattle.std.specs.Prelude.{◌≡◌, ℕ, ◌+◌, ◌*◌, ◌<◌, ◌≤◌, ◌⊎◌, List, map, length}
-use Rattle.fields.specs.declared.fault.Refusal.{Refusal}
 use Rattle.book.specs.Book.{Book, undoubted_place}
 use Rattle.book.specs.Calls.{BookAnswer, Follows, listing_of, doubt, solve, settle, done, refused, listed}
 use Rattle.algebra.specs.NumericCode.{NumericCode}
 use Rattle.book.specs.Codes.{IsNear}
+use Rattle.book.specs.declared.call_fault.CallFault.{CallFault}
 use Rattle.book.specs.declared.record.Record.{Record}
 
 abbrev pub IsRefusal : BookAnswer → Type 0
-IsRefusal a = (why : Refusal) × (a ≡ refused why)
+IsRefusal a = (fault : CallFault) × (a ≡ refused fault)
 
 -- the row is neither too short nor too long, and the lent lists are long enough
 pub record IsWorkable (C : NumericCode) (r w : ℕ) (b : Book) : Type 0 where

@@ -8,7 +8,7 @@ use Rattle.std.specs.Bool.{then_some}
 use Rattle.algebra.specs.Field.{FieldOn, Enumeration}
 use Rattle.book.specs.Book.{Book, row, undoubted_place}
 use Rattle.book.specs.Calls.{Follows, SearchGives, listed, listing_of, none_near, one_near, refused, settle, settles, solve, solves, search_fault}
-use Rattle.book.specs.CodeFaults.{code_refusal}
+use Rattle.book.specs.declared.call_fault.CallFault.TheVariants.{Code as of_code}
 use Rattle.algebra.specs.NumericCode.{NumericCode}
 use Rattle.book.specs.Codes.{IsLawful, IsNear}
 use Rattle.book.specs.Mending.{Fits, changes, nonzero_count, row_less}
@@ -60,14 +60,14 @@ module _ (C : NumericCode) (r w : ℕ) (b : Book) where
           room = omega (arith, few, long, can.room);
         }
 
-    unfit : (p : Pattern) → Proposes C b w (Some p) → ¬ Fits C b p → SearchGives C r w b (refused (code_refusal Unfit)) None
+    unfit : (p : Pattern) → Proposes C b w (Some p) → ¬ Fits C b p → SearchGives C r w b (refused (of_code Unfit)) None
     unfit p proposes never = none_near none (λ n near.
         let can = able none in
         let same : Some p ≡ Some (changes C b n) = proposes n can.short can.working near in
         let listed : p ≡ changes C b n = cc in
         never (subst (Fits C b) (sym listed) (changes_fit C law b n symbols near)))
 
-    none_found : Proposes C b w None → SearchGives C r w b (refused (code_refusal Unfit)) None
+    none_found : Proposes C b w None → SearchGives C r w b (refused (of_code Unfit)) None
     none_found proposes = none_near none (λ n near.
         let can = able none in
         let same : None ≡ Some (changes C b n) = proposes n can.short can.working near in

@@ -5,14 +5,14 @@
 use Rattle.std.specs.Prelude.{ℕ, List, length, take, replicate, Ok, Err, Result}
 use Rattle.algebra.specs.Field.{FieldOn}
 use Rattle.book.specs.Calls.{BookAnswer, refused, listed}
-use Rattle.book.specs.CodeFaults.{code_refusal}
+use Rattle.book.specs.declared.call_fault.CallFault.TheVariants.{Code as of_code}
 use Rattle.book.specs.declared.code_fault.CodeFault.{CodeFault}
 use Rattle.book.specs.declared.code_fault.CodeFault.TheVariants.{Short, Long, Records, Working, Doubts, Unfit}
 use Rattle.book.specs.declared.record.Record.{Record}
 
 abbrev pub search_answer : Result (ℕ × ℕ) CodeFault → List Record → BookAnswer
 search_answer (Ok n) rs = listed (take n.0 rs) n.0 n.1
-search_answer (Err fault) rs = refused (code_refusal fault)
+search_answer (Err fault) rs = refused (of_code fault)
 
 abbrev pub listed_count : Result (ℕ × ℕ) CodeFault → ℕ
 listed_count (Ok n) = n.0

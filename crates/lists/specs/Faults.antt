@@ -1,15 +1,7 @@
--- What each refusal of a list tells, and when a call is refused.
+-- When a list function is refused, and what the list that it writes then holds.
 use Rattle.std.specs.Prelude.{ℕ, cond, List, ◌++◌, length, drop, Ok, Err, Result, ◌==◌, nat_lt}
-use Rattle.fields.specs.Faults.{field_refusal}
-use Rattle.fields.specs.declared.fault.Refusal.{Refusal}
-use Rattle.fields.specs.declared.fault.Layer.TheVariants as layers
 use Rattle.lists.specs.declared.fault.ListFault.{ListFault}
-use Rattle.lists.specs.declared.fault.ListFault.TheVariants.{Empty, Short, Field}
-
-abbrev pub list_refusal : ListFault → Refusal
-list_refusal Empty = record { number = 10; layer = layers.List; place = 0 }
-list_refusal Short = record { number = 11; layer = layers.List; place = 0 }
-list_refusal (Field e) = record { number = (field_refusal e).number; layer = layers.List; place = 0 }
+use Rattle.lists.specs.declared.fault.ListFault.TheVariants.{Empty, Short}
 
 -- x, refused where the shortest list given has no entry
 abbrev pub unless_empty : {X : Type 0} → ℕ → X → Result X ListFault

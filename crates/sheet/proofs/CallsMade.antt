@@ -6,7 +6,7 @@ use Rattle.std.proofs.lemmas.Bool.{eqb-true}
 use Rattle.book.specs.Book as book
 use Rattle.book.specs.Book.{Book, answer_of, book_after, fresh_book}
 use Rattle.book.specs.Calls.{BookCall, Follows, plain_answer, done, wipe, write, blank, writes, blanks, wipes}
-use Rattle.book.specs.SlipFaults.{slip_refusal}
+use Rattle.book.specs.declared.call_fault.CallFault.TheVariants.{Slip as of_slip}
 use Rattle.book.specs.Story.{Leads}
 use Rattle.book.specs.declared.slip_fault.SlipFault.{SlipFault}
 use Rattle.sheet.proofs.Fronts.{one_before}
@@ -59,12 +59,12 @@ pieces_calls (byte ∷ bytes) front =
 -- bytes that are all taken lead from book to book by calls that are all accepted
 module _ (case : Case) (place byte : ℕ) (bytes : List ℕ) (b last : Book)
     (rest : (c : Book) → book_after_bytes true case (place + 1) bytes c ≡ Ok last → Leads c (all_done (calls_of_bytes bytes)) last) where
-  call_leads : (call : BookCall) (called : Result Book SlipFault) → Follows b call (plain_answer slip_refusal called) (book_after b called)
+  call_leads : (call : BookCall) (called : Result Book SlipFault) → Follows b call (plain_answer of_slip called) (book_after b called)
       → and_then (fault_at_byte place called) (book_after_bytes true case (place + 1) bytes) ≡ Ok last → Leads b (all_done (call ∷ calls_of_bytes bytes)) last
   call_leads call (Ok next) follows e = (next, follows, rest next e)
   call_leads call (Err fault) follows e = never _ last e
 
-  write_leads : (v : ℕ) (other : Bool) (called : Result Book SlipFault) → Follows b (write v) (plain_answer slip_refusal called) (book_after b called)
+  write_leads : (v : ℕ) (other : Bool) (called : Result Book SlipFault) → Follows b (write v) (plain_answer of_slip called) (book_after b called)
       → and_then (cond other (Err (OtherCase place)) (fault_at_byte place called)) (book_after_bytes true case (place + 1) bytes) ≡ Ok last
       → Leads b (all_done (write v ∷ calls_of_bytes bytes)) last
   write_leads v true called follows e = never _ last e

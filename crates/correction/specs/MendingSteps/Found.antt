@@ -5,7 +5,7 @@ use Rattle.std.specs.List.{AllByRecursion}
 use Rattle.std.specs.Prelude.{◌≡◌, ℕ, ◌<◌, ◌≤◌, List, length, None, Ok, Err, Result}
 use Rattle.book.specs.Book.{Book, row}
 use Rattle.book.specs.Calls.{SearchGives, refused, search_fault}
-use Rattle.book.specs.CodeFaults.{code_refusal}
+use Rattle.book.specs.declared.call_fault.CallFault.TheVariants.{Code as of_code}
 use Rattle.algebra.specs.NumericCode.{NumericCode}
 use Rattle.book.specs.Codes.{IsNear}
 use Rattle.book.specs.Mending.{changes, row_less}
@@ -24,4 +24,4 @@ pub record IsFinding (C : NumericCode) (r w : ℕ) (b : Book) (cs : List Record)
 
 abbrev pub SearchFinds : NumericCode → ℕ → ℕ → Book → Result Pattern CodeFault → Type 0
 SearchFinds C r w b (Ok pattern) = IsFinding C r w b pattern
-SearchFinds C r w b (Err fault) = SearchGives C r w b (refused (code_refusal fault)) None
+SearchFinds C r w b (Err fault) = SearchGives C r w b (refused (of_code fault)) None
