@@ -3,8 +3,8 @@
 // symbols were changed, the sail number, and the seconds since midnight.
 #![tactic(auto)]
 
-use sheet::line_reading::has_more;
-use sheet::{INPUT_BYTES, finish_stream};
+use lines::{INPUT_BYTES, has_more};
+use sheet::finish_stream;
 use std::io::BufReader;
 
 fn run(rt: &HostRuntime) -> anyhow::Result<()> {

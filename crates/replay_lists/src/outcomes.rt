@@ -1,4 +1,7 @@
 // Outcomes of the functions that write their answer into a list that is lent to them.
+ghost use Rattle.std.specs.Prelude.{◌≡◌, IfOk, take, string_bytes};
+ghost use Rattle.replay_lists.specs.Answers.{shown, of_list};
+
 use anyhow::Context;
 use fields::Field;
 use lists::ListFault;
@@ -11,7 +14,9 @@ pub fn write_front<F: Field>(
     heap: Global,
     outcome: Result<usize, ListFault>,
     lent: &[F],
-) -> anyhow::Result<String> {
+) -> anyhow::Result<String>
+    ensures { IfOk result (λ text. string_bytes text ≡ shown (λ n. of_list F.numbers (take n lent.now)) outcome) }
+{
     match outcome {
         Ok(count) => {
             let entries = lent.get(..count).context("more entries than were lent")?;

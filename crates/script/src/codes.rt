@@ -79,7 +79,7 @@ pub trait CodeSet: Copy {
 impl<C: Checksum> CodeSet for Single<C> {
     type Workspace = Workspace<C::CorrectionField>;
 
-    ghost codes = { λ _. C.codes };
+    ghost codes = { λ _. C.rows };
 
     ghost clear = { λ d. d.work ≡ replicate 216 C.CorrectionField.field.𝟘 };
 

@@ -3,8 +3,8 @@
 // with the number of the refusal and the byte where it lies.
 #![tactic(auto)]
 
-use sheet::line_reading::has_more;
-use sheet::{INPUT_BYTES, seal_stream};
+use lines::{INPUT_BYTES, has_more};
+use sheet::seal_stream;
 use std::io::BufReader;
 
 fn run(rt: &HostRuntime) -> anyhow::Result<()> {

@@ -2,13 +2,13 @@
 use Rattle.std.proofs.Common.{◌≡◌, ℕ, zero, suc, ◌+◌, ◌*◌, ◌<◌, None, Some, Ok, Err, OnOk, Option, Result, IfSome, List, [], ◌∷◌, ◌++◌, length, get_or, take, drop, sym, ap, subst, ◌∙◌, arith}
 use Rattle.std.proofs.lemmas.List.{drop_at, drop-drop, length-append, take_at}
 use Rattle.std.specs.Io.KnownBytes.{Appends}
-use Rattle.book.specs.Codes.{Rows}
+use Rattle.algebra.specs.NumericCode.{NumericCode}
 use Rattle.sheet.specs.Columns.{column}
 use Rattle.sheet.specs.OutputLines.{output_line}
 use Rattle.sheet.specs.declared.output_line.Report.{Report}
 use Rattle.sheet.proofs.ColumnSteps.{length_column}
 use Rattle.sheet.specs.Shown.{ShowsLine, Whole, report_of}
-use Rattle.sheet.specs.Streams.{AnswersAll, Answers}
+use Rattle.lines.specs.Streams.{AnswersAll, Answers}
 
 pub on_ok : {X E P Q : Type 0} → (P → Q) → (r : Result X E) → OnOk r P → OnOk r Q
 on_ok f (Ok x) p = f p
@@ -25,7 +25,7 @@ length_output_line told =
     let refusal = two (column 4 told.refusal) _ 4 21 (length_column 4 told.refusal) changes in
     two (column 6 told.line) _ 6 25 (length_column 6 told.line) refusal
 
-module _ (C : Rows) where
+module _ (C : NumericCode) where
   length_shown : (number : ℕ) (line text : List ℕ) → ShowsLine C number line text → length text ≡ 31
   length_shown number line text s = ap length s.2 ∙ length_output_line (report_of number s.0)
 

@@ -3,8 +3,6 @@ pub mod Fronts
 pub mod ColumnSteps
 pub mod ColumnsReadBack
 pub mod SideBySide
-pub mod Coming
-pub mod Lines
 pub mod BytesTaken
 pub mod CallsMade
 pub mod EightSealed

@@ -1,10 +1,7 @@
 pub mod Cursors
-pub mod Lines
 pub mod Pieces
 pub mod Columns
 pub mod OutputLines
-pub mod Reading
-pub mod Streams
 pub mod Calls
 pub mod Characters
 pub mod Faults

@@ -1,5 +1,5 @@
 -- What the hut tells of a sheet, in the words of its slip's book.
---   finish_rows  the finish code as its rows know it
+--   finish_numeric  the finish code as its rows know it
 --   Says         what a typed line says: a finish, or why it is refused
 --   OnlySays     it says this, and nothing else
 --   report_of    what is told of it
@@ -55,5 +55,5 @@ ShowsLine C number line text = (outcome : Result Reading Refusal) × OnlySays C 
 abbrev pub ShowsLines : NumericCode → ℕ → List (List ℕ) → List ℕ → Type 0
 ShowsLines C m lines bytes = (k : ℕ) → k < m → ShowsLine C (k + 1) (slice_index_or lines k []) (take 31 (drop (31 * k) bytes))
 
-abbrev pub Whole : Rows → List (List ℕ) → List ℕ → Type 0
+abbrev pub Whole : NumericCode → List (List ℕ) → List ℕ → Type 0
 Whole C lines bytes = (length bytes ≡ 31 * length lines) × ShowsLines C (length lines) lines bytes

@@ -80,7 +80,7 @@ fn settle(slip: &mut Slip) -> Reply
     let code = Single::<Finish> { code: PhantomData };
     let steps = [Step {
         slip: 0,
-        ask: Call::Settle(code, LENT),
+        call: Call::Settle(code, LENT),
     }];
     let mut replies = [Ok(Answer::Done)];
     run(

@@ -5,5 +5,5 @@ use Rattle.script.proofs.codes.SingleCodeSet.settle.Goals as goal
 
 pub returns : goal.returns
 returns g c =
-    settle_on_desk g.C.Checksum.codes (subst (λ (r : NumericCode). r.bound ≤ 16) (sym g.met.C.Checksum.rows_are) c.laws.ensures.lawful.bound_small)
+    settle_on_desk g.C.Checksum.rows (subst (λ (r : NumericCode). r.bound ≤ 16) (sym g.met.C.Checksum.rows_are) c.laws.ensures.lawful.bound_small)
     _ _ _ c.args.w c.min.result _ _ c.min.ensures (search rules) c.settle.ensures.follows

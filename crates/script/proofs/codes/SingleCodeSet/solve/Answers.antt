@@ -5,5 +5,5 @@ use Rattle.script.proofs.codes.SingleCodeSet.solve.Goals as goal
 
 pub returns : goal.returns
 returns g c =
-    solve_on_desk g.C.Checksum.codes (subst (λ (r : NumericCode). r.bound ≤ 16) (sym g.met.C.Checksum.rows_are) c.laws.ensures.lawful.bound_small)
+    solve_on_desk g.C.Checksum.rows (subst (λ (r : NumericCode). r.bound ≤ 16) (sym g.met.C.Checksum.rows_are) c.laws.ensures.lawful.bound_small)
     _ _ _ c.args.w c.min.result _ _ c.min.ensures (search rules) c.solve.ensures.follows

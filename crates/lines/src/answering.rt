@@ -1,0 +1,60 @@
+// Lines, each answered before the next is read.
+ghost use Rattle.std.specs.Prelude.{◌≡◌, ℕ, ◌≤◌, List, length, take, IfSome, OnOk};
+ghost use Rattle.std.specs.Io.KnownBytes.{Appends};
+ghost use Rattle.lines.specs.Lines.{lines_of};
+ghost use Rattle.lines.specs.Streams.{AnswersAll, Streams, WritesAnswer};
+
+use crate::fault::StreamError;
+use crate::reading::read_line;
+use std::alloc::Global;
+use std::io;
+use std::io::{Read, Write};
+
+/// How many bytes are read at most.
+pub const INPUT_BYTES: usize = 65_536;
+
+/// What answers lines, each by itself.
+pub trait Clerk {
+    // The texts that may answer a line with this number.
+    ghost answers: { ℕ → List ℕ → List ℕ → Type 0 };
+
+    /// Writes the answer of a line, whose number is given, and flushes. Where that fails, a front of the answer was written.
+    fn answer<W: Write>(number: usize, line: &[u8], writer: &mut W) -> io::Result<()>
+        ensures { WritesAnswer answers number line.now (W.contents writer.old) (W.contents writer.new) result };
+}
+
+/// Reads lines, at most 65,536 bytes of them, and writes the answer of each before it reads on. A newline ends a line, and so
+/// does the last byte that is read. Lines count from 1. The answer is whether the limit was reached; else the reader is at its
+/// end.
+pub fn answer_lines<C: Clerk, R: Read, W: Write>(
+    alloc: Global,
+    reader: &mut R,
+    writer: &mut W,
+) -> Result<bool, StreamError>
+    // What was read and written, on success and on failure.
+    ensures so_far { Streams C.answers 65536 (R.remaining reader.old) (R.remaining reader.new)
+        (W.contents writer.old) (W.contents writer.new) result }
+
+    // On success what was read is the first 65,536 bytes.
+    ensures all { OnOk result (IfSome (R.remaining reader.old) (λ input.
+        AnswersAll C.answers (lines_of (take 65536 input)) (W.contents writer.old) (W.contents writer.new))) }
+{
+    let mut line = Vec::new(alloc);
+    let mut left = INPUT_BYTES;
+    for answered in 0..INPUT_BYTES {
+        let more = match read_line(reader, &mut left, &mut line) {
+            Ok(more) => more,
+            Err(error) => return Err(StreamError::Input(error)),
+        };
+        if !more && line.is_empty() {
+            return Ok(left == 0);
+        }
+        if let Err(error) = C::answer(answered + 1, &line, writer) {
+            return Err(StreamError::Output(error));
+        }
+        if !more {
+            return Ok(left == 0);
+        }
+    }
+    Ok(left == 0)
+}
