@@ -5,12 +5,13 @@
 
 use lines::{INPUT_BYTES, has_more};
 use sheet::finish_stream;
-use std::io::BufReader;
+use std::io::{BufReader, BufWriter};
 
 fn run(rt: &HostRuntime) -> anyhow::Result<()> {
     // The buffer may take up to 8,192 bytes past the limit from an input that other programs read too.
     let mut input = BufReader::new(rt.alloc(), rt.stdin())?;
-    let full = finish_stream(rt.alloc(), &mut input, &mut rt.stdout())?;
+    let mut output = BufWriter::new(rt.alloc(), rt.stdout())?;
+    let full = finish_stream(rt.alloc(), &mut input, &mut output)?;
     if full && has_more(&mut input)? {
         eprintln!(rt; "hut: {INPUT_BYTES} bytes were read; more follow, and are not read")?;
     }

@@ -5,7 +5,7 @@ ghost use Rattle.lines.specs.Lines.{lines_of};
 ghost use Rattle.lines.specs.Streams.{AnswersAll, Streams, WritesAnswer};
 
 use crate::fault::StreamError;
-use crate::reading::read_line;
+use crate::reading::{LineAhead, read_line};
 use std::alloc::Global;
 use std::io;
 use std::io::{Read, Write};
@@ -18,15 +18,15 @@ pub trait Clerk {
     // The texts that may answer a line with this number.
     ghost answers: { ℕ → List ℕ → List ℕ → Type 0 };
 
-    /// Writes the answer of a line, whose number is given, and flushes. Where that fails, a front of the answer was written.
+    /// Writes the answer of a line, whose number is given. Where that fails, a front of the answer was written.
     fn answer<W: Write>(number: usize, line: &[u8], writer: &mut W) -> io::Result<()>
         ensures { WritesAnswer answers number line.now (W.contents writer.old) (W.contents writer.new) result };
 }
 
-/// Reads lines, at most 65,536 bytes of them, and writes the answer of each before it reads on. A newline ends a line, and so
-/// does the last byte that is read. Lines count from 1. The answer is whether the limit was reached; else the reader is at its
-/// end.
-pub fn answer_lines<C: Clerk, R: Read, W: Write>(
+/// Reads lines, at most 65,536 bytes of them, and writes the answer of each before it reads on, and flushes before it has to wait
+/// for a line. A newline ends a line, and so does the last byte that is read. Lines count from 1. The answer is whether the limit
+/// was reached; else the reader is at its end.
+pub fn answer_lines<C: Clerk, R: Read + LineAhead, W: Write>(
     alloc: Global,
     reader: &mut R,
     writer: &mut W,
@@ -49,7 +49,8 @@ pub fn answer_lines<C: Clerk, R: Read, W: Write>(
         if !more && line.is_empty() {
             return Ok(left == 0);
         }
-        if let Err(error) = C::answer(answered + 1, &line, writer) {
+        let waits = must_wait(reader, more, left);
+        if let Err(error) = answer_line::<C, W>(answered + 1, &line, waits, writer) {
             return Err(StreamError::Output(error));
         }
         if !more {
@@ -57,4 +58,22 @@ pub fn answer_lines<C: Clerk, R: Read, W: Write>(
         }
     }
     Ok(left == 0)
+}
+
+// Writes the answer of a line, and flushes if the next line has to be waited for, or there is none.
+fn answer_line<C: Clerk, W: Write>(
+    number: usize,
+    line: &[u8],
+    waits: bool,
+    writer: &mut W,
+) -> io::Result<()>
+    ensures { WritesAnswer C.answers number line.now (W.contents writer.old) (W.contents writer.new) result }
+{
+    C::answer(number, line, writer)?;
+    if waits { writer.flush() } else { Ok(()) }
+}
+
+// Whether the next line has to be waited for, or there is none.
+fn must_wait<R: LineAhead>(reader: &R, more: bool, left: usize) -> bool {
+    !more || left == 0 || !reader.has_line()
 }

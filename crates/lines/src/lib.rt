@@ -10,5 +10,5 @@ pub mod writing;
 
 pub use answering::{Clerk, INPUT_BYTES, answer_lines};
 pub use fault::StreamError;
-pub use reading::has_more;
+pub use reading::{LineAhead, has_more};
 pub use writing::write_text;

@@ -3,8 +3,21 @@ ghost use Rattle.std.specs.Prelude.{◌≡◌, ◌≢◌, ℕ, ◌+◌, ◌<◌,
 ghost use Rattle.std.specs.Io.KnownBytes.{Consumes, IsAtEnd, Keeps};
 ghost use Rattle.lines.specs.Reading.{ReadsLine};
 
+use std::alloc::Allocator;
 use std::io;
-use std::io::{ErrorKind, Read};
+use std::io::{BufReader, ErrorKind, Read};
+
+/// A reader that may hold a line already.
+pub trait LineAhead {
+    /// Whether a line and its newline can be read without waiting.
+    fn has_line(&self) -> bool;
+}
+
+impl<R: Read, A: Allocator> LineAhead for BufReader<R, A> {
+    fn has_line(&self) -> bool {
+        self.buffer().contains(&b'\n')
+    }
+}
 
 /// Reads a line: the bytes before the next newline, or before the end, or as many as `left` allows, which counts the bytes
 /// that may still be read. The answer is whether a newline ended the line; else nothing more is to be read. A reader that

@@ -3,10 +3,10 @@ ghost use Rattle.std.specs.Prelude.{⊤};
 
 use crate::answering::{Clerk, INPUT_BYTES, answer_lines};
 use crate::fault::StreamError;
-use crate::reading::has_more;
+use crate::reading::{LineAhead, has_more};
 use crate::writing::write_text;
 use std::io;
-use std::io::{BufReader, ErrorKind, Read, Write};
+use std::io::{BufReader, BufWriter, ErrorKind, Read, Write};
 
 // Answers a line by its first byte, or by a dash, so that a lost or doubled byte shows.
 struct First;
@@ -39,6 +39,19 @@ impl Read for Failing<'_> {
         buf[..n].copy_from_slice(&self.rest[..n]);
         self.rest = &self.rest[n..];
         Ok(n)
+    }
+}
+
+// It is known of no line that it is there.
+impl LineAhead for Failing<'_> {
+    fn has_line(&self) -> bool {
+        false
+    }
+}
+
+impl LineAhead for &[u8] {
+    fn has_line(&self) -> bool {
+        self.contains(&b'\n')
     }
 }
 
@@ -104,10 +117,13 @@ fn a_buffered_reader_that_fails_in_mid_line(rt: HostRuntime) {
     let Ok(mut input) = BufReader::new(rt.alloc(), failing) else {
         return;
     };
-    let mut output = Vec::new(rt.alloc());
+    let Ok(mut output) = BufWriter::new(rt.alloc(), Vec::new(rt.alloc())) else {
+        return;
+    };
     let result = answer_lines::<First, _, _>(rt.alloc(), &mut input, &mut output);
     assert!(rt; matches!(result, Err(StreamError::Input(_))));
-    assert!(rt; output.as_slice() == b"o\nt\n".as_slice());
+    // The answers are out, and not in the buffer.
+    assert!(rt; output.get_ref().as_slice() == b"o\nt\n".as_slice());
 }
 
 #[test]
@@ -145,16 +161,21 @@ fn one_line_about_as_long_as_the_limit(rt: HostRuntime) {
 }
 
 #[test]
-fn as_many_newlines_as_may_be_read(rt: HostRuntime) {
-    let Ok(bytes) = vec![in rt.alloc(); b'\n'; INPUT_BYTES] else {
+fn more_newlines_than_may_be_read(rt: HostRuntime) {
+    let Ok(bytes) = vec![in rt.alloc(); b'\n'; 65_537] else {
         return;
     };
-    let mut input = bytes.as_slice();
-    let mut output = Vec::new(rt.alloc());
+    let Ok(mut input) = BufReader::new(rt.alloc(), bytes.as_slice()) else {
+        return;
+    };
+    let Ok(mut output) = BufWriter::new(rt.alloc(), Vec::new(rt.alloc())) else {
+        return;
+    };
     let full = answer_lines::<First, _, _>(rt.alloc(), &mut input, &mut output);
     assert!(rt; matches!(full, Ok(true)));
-    assert!(rt; output.len() == 2 * INPUT_BYTES);
-    assert!(rt; output.as_slice().ends_with(b"-\n-\n"));
+    assert!(rt; output.get_ref().len() == 2 * INPUT_BYTES);
+    assert!(rt; output.get_ref().as_slice().ends_with(b"-\n-\n"));
+    assert!(rt; matches!(has_more(&mut input), Ok(true)));
     assert!(rt; matches!(has_more(&mut input), Ok(false)));
 }
 

@@ -6,7 +6,7 @@ ghost use Rattle.std.specs.Io.KnownBytes.{Appends, Keeps};
 use std::io;
 use std::io::{ErrorKind, Write};
 
-/// Writes a text, and flushes. Where that fails, a front of the text was written.
+/// Writes a text. Where that fails, a front of it was written.
 pub fn write_text<W: Write>(writer: &mut W, text: &[u8]) -> io::Result<()>
     ensures { (n : ℕ) × Appends (W.contents writer.old) (W.contents writer.new) (take n text.now)
         × OnOk result (length text.now ≤ n) }
@@ -19,7 +19,7 @@ pub fn write_text<W: Write>(writer: &mut W, text: &[u8]) -> io::Result<()>
         }
         written += n;
     }
-    writer.flush()
+    Ok(())
 }
 
 // One write, repeated where a signal interrupts it.

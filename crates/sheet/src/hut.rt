@@ -6,7 +6,7 @@ ghost use Rattle.lines.specs.Streams.{Streams};
 ghost use Rattle.sheet.specs.Shown.{ShowsLine, Whole, finish_numeric};
 
 use crate::hut_lines::finish_line;
-use lines::{Clerk, StreamError, answer_lines, write_text};
+use lines::{Clerk, LineAhead, StreamError, answer_lines, write_text};
 use std::alloc::Global;
 use std::io;
 use std::io::{Read, Write};
@@ -24,7 +24,7 @@ impl Clerk for FinishClerk {
 
 /// Reads the lines of a sheet, at most 65,536 bytes of them, and writes the output line of each before it reads on. The answer
 /// is whether the limit was reached; else the reader is at its end.
-pub fn finish_stream<R: Read, W: Write>(
+pub fn finish_stream<R: Read + LineAhead, W: Write>(
     alloc: Global,
     reader: &mut R,
     writer: &mut W,

@@ -10,7 +10,7 @@ use crate::refusal::Refusal;
 use crate::sealed::seal_line;
 use arrayvec::ArrayVec;
 use itoa::Buffer;
-use lines::{Clerk, StreamError, answer_lines, write_text};
+use lines::{Clerk, LineAhead, StreamError, answer_lines, write_text};
 use std::alloc::Global;
 use std::io;
 use std::io::{Read, Write};
@@ -29,7 +29,7 @@ impl Clerk for SealClerk {
 
 /// Reads boats' lines, at most 65,536 bytes of them, and writes the sealed row or the refusal of each before it reads on. The
 /// answer is whether the limit was reached; else the reader is at its end.
-pub fn seal_stream<R: Read, W: Write>(
+pub fn seal_stream<R: Read + LineAhead, W: Write>(
     alloc: Global,
     reader: &mut R,
     writer: &mut W,

@@ -28,11 +28,11 @@ returns-then-is_empty-clause-so_far g c =
 pub returns-then-is_empty-clause-all : goal.returns-then-is_empty-clause-all
 returns-then-is_empty-clause-all g c = all_answered g.C.Clerk.answers 65536 _ _ _ _ _ (returns-then-is_empty-clause-so_far g c)
 
-pub returns-in-Err-answer-clause-so_far : goal.returns-in-Err-answer-clause-so_far
-returns-in-Err-answer-clause-so_far g c =
+pub returns-in-Err-answer_line-clause-so_far : goal.returns-in-Err-answer_line-clause-so_far
+returns-in-Err-answer_line-clause-so_far g c =
     let read = c.in-Ok.ensures in
     let line = c.read_line.new.line in
-    let wrote = c.in-Err-answer.ensures in
+    let wrote = c.in-Err-answer_line.ensures in
     let is = subst (λ (l : List ℕ). g.C.Clerk.answers (c.loop-answered.answered + 1) l wrote.0) c.deref.ensures.value wrote.2 in
     let some : c.in-Ok.more ≡ false → 0 < length line.items = elim c.else-not-more.branch [
       | else-not-more-via-then-not-more+else-is_empty w ↦ λ _.
@@ -41,7 +41,7 @@ returns-in-Err-answer-clause-so_far g c =
       | else-not-more-via-else-not-more w ↦ λ e. absurd (both_ways c.in-Ok.more e w.if-not-more.false)
     ] in
     let same = of_read g.C.Clerk.answers 65536 _ _ _ _ _ _ c.loop-answered.invariant _ _ read.0 read.1 read.2 line.items wrote.0 wrote.1 _ is wrote.3 c.in-Ok.more read.3 some in
-    output_stopped g.C.Clerk.answers 65536 _ _ _ _ _ _ c.loop-answered.invariant _ _ read.0 read.1 read.2 line.items wrote.0 wrote.1 _ is wrote.3 c.in-Err-answer.error same
+    output_stopped g.C.Clerk.answers 65536 _ _ _ _ _ _ c.loop-answered.invariant _ _ read.0 read.1 read.2 line.items wrote.0 wrote.1 _ is wrote.3 c.in-Err-answer_line.error same
 
 pub returns-then-not-more-2-clause-so_far : goal.returns-then-not-more-2-clause-so_far
 returns-then-not-more-2-clause-so_far g c =
