@@ -10,5 +10,6 @@ pub mod ReadingOff
 pub mod Sealed
 pub mod SheetFaults
 pub mod Taking
+pub mod Barred
 pub mod Shown
 pub mod Written
