@@ -1,10 +1,16 @@
 -- What solve and settle tell by their answers and by the lists that were lent.
 --   told_list  the answer of a call, its records being at the front of a list
 --   listed_count   how many of them are the answer's
+--   IsNearPattern   a list of records is the one pattern that fits, and leads to a near row
+--   ListsPattern   the records of an answer are
 --   workspace_after   the working list after an answer: all ZERO once a row was looked for
 use Rattle.std.specs.Prelude.{ℕ, List, length, take, replicate, Ok, Err, Result}
 use Rattle.algebra.specs.Field.{FieldOn}
+use Rattle.algebra.specs.NumericCode.{NumericCode}
+use Rattle.book.specs.Book.{Book}
 use Rattle.book.specs.Calls.{BookAnswer, refused, listed}
+use Rattle.book.specs.Codes.{IsNear}
+use Rattle.book.specs.Mending.{IsOnlyPattern}
 use Rattle.book.specs.declared.call_fault.CallFault.TheVariants.{Code as of_code}
 use Rattle.book.specs.declared.code_fault.CodeFault.{CodeFault}
 use Rattle.book.specs.declared.code_fault.CodeFault.TheVariants.{Short, Long, Records, Working, Doubts, Unfit}
@@ -17,6 +23,16 @@ search_answer (Err fault) rs = refused (of_code fault)
 abbrev pub listed_count : Result (ℕ × ℕ) CodeFault → ℕ
 listed_count (Ok n) = n.0
 listed_count (Err fault) = 0
+
+-- cs makes the row of b a row that is near, and is the only pattern that fits
+pub record IsNearPattern (C : NumericCode) (b : Book) (cs : List Record) : Type 0 where
+  pub meant : List ℕ
+  pub near : IsNear C b meant
+  pub only : IsOnlyPattern C b meant cs
+
+abbrev pub ListsPattern : NumericCode → Book → Result (ℕ × ℕ) CodeFault → List Record → Type 0
+ListsPattern C b (Ok n) rs = IsNearPattern C b (take n.0 rs)
+ListsPattern C b (Err fault) rs = Unit {0}
 
 module _ {E : Type 0} (F : FieldOn E) where
   abbrev pub zeros : List E → List E
