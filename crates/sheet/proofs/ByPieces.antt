@@ -1,12 +1,11 @@
 -- To take the pieces of a line is to take the bytes before its slash; and where the pieces are in the line.
-use Rattle.std.proofs.Common.{◌≡◌, ℕ, suc, ◌+◌, ◌≤◌, Bool, true, false, cond, eqb, List, [], ◌∷◌, ◌++◌, length, Ok, Err, Result, sym, refl, ap, ◌∙◌, arith}
+use Rattle.std.proofs.Common.{◌≡◌, ℕ, ◌+◌, ◌≤◌, Bool, true, false, cond, eqb, List, [], ◌∷◌, ◌++◌, length, Ok, Err, Result, sym, refl, ap, ◌∙◌, arith}
 use Rattle.std.specs.Prelude.{⊤}
 use Rattle.std.specs.List.{position_or_len}
-use Rattle.std.proofs.lemmas.Bool.{eqb-true}
 use Rattle.std.proofs.lemmas.List.{length_push}
 use Rattle.book.specs.Book.{Book, fresh_book}
 use Rattle.sheet.proofs.Fronts.{one_before}
-use Rattle.sheet.specs.Pieces.{Part, group, remark, with_group_before, pieces, pieces_after}
+use Rattle.sheet.specs.Pieces.{Part, group, remark, with_group_before, pieces_after}
 use Rattle.sheet.specs.Taking.{and_then, before_slash, book_after_byte, book_after_bytes, book_after_parts, fault_at, line_case, refused_as, take_line}
 use Rattle.sheet.specs.declared.characters.Case.{Case}
 use Rattle.sheet.specs.declared.fault.LineFault.{LineFault}
