@@ -9,6 +9,7 @@ use lists::products::{convolution, mul_mod_x_d};
 use replay::commas::WithCommas;
 use replay::elements::{ByNumber, read_element, read_elements};
 use replay::outcomes::{write_outcome, write_refusal};
+use sheet::refusal_number;
 use std::alloc::Global;
 
 fn derivative<F: Field>(heap: Global, list: &[F]) -> anyhow::Result<String> {
@@ -41,14 +42,14 @@ fn convolved<F: Field>(heap: Global, a: &[F], s: &[F]) -> anyhow::Result<String>
 pub fn roots<F: Field>(heap: Global, list: &[F], base: F) -> anyhow::Result<String> {
     let mut cursor = match find_nonzero_distinct_roots(base) {
         Ok(cursor) => cursor,
-        Err(fault) => return write_refusal(heap, fault),
+        Err(fault) => return write_refusal(heap, refusal_number(fault)),
     };
     let mut indices: Vec<usize> = Vec::new(heap);
     for _ in 0..F::MULTIPLICATIVE_ORDER {
         match cursor.next(list) {
             Ok(Some(index)) => indices.push(index)?,
             Ok(None) => break,
-            Err(fault) => return write_refusal(heap, fault),
+            Err(fault) => return write_refusal(heap, refusal_number(fault)),
         }
     }
     Ok(WithCommas(indices.as_slice()).to_string(heap)?)
@@ -56,8 +57,8 @@ pub fn roots<F: Field>(heap: Global, list: &[F], base: F) -> anyhow::Result<Stri
 
 fn answer_of_one<F: Field>(heap: Global, operation: &str, list: &[F]) -> anyhow::Result<String> {
     match operation {
-        "degree" => write_outcome(heap, degree(list)),
-        "leading" => write_outcome(heap, leading_term(list).map(ByNumber)),
+        "degree" => write_outcome(heap, degree(list).map_err(refusal_number)),
+        "leading" => write_outcome(heap, leading_term(list).map(ByNumber).map_err(refusal_number)),
         "deriv" => derivative(heap, list),
         _ => Err(anyhow!("an unknown operation of one argument")),
     }
@@ -70,7 +71,7 @@ fn answer_of_two<F: Field>(
     argument: &str,
 ) -> anyhow::Result<String> {
     match operation {
-        "eval" => write_outcome(heap, evaluate(list, read_element(argument)?).map(ByNumber)),
+        "eval" => write_outcome(heap, evaluate(list, read_element(argument)?).map(ByNumber).map_err(refusal_number)),
         "conv" => convolved(heap, list, read_elements(heap, argument)?.as_slice()),
         "roots" => roots(heap, list, read_element(argument)?),
         "add" => sum(heap, list, read_elements(heap, argument)?.as_slice()),

@@ -12,6 +12,7 @@ use lists::fieldvec::lift;
 use lists::polynomial::evaluate_lifted;
 use replay::elements::{ByNumber, read_element, read_elements};
 use replay::outcomes::{write_outcome, write_refusal};
+use sheet::refusal_number;
 use std::alloc::Global;
 
 fn lifted<E: ExtensionField>(heap: Global, list: &[E::BaseField]) -> anyhow::Result<String> {
@@ -23,7 +24,7 @@ fn lifted<E: ExtensionField>(heap: Global, list: &[E::BaseField]) -> anyhow::Res
 fn value<E: ExtensionField>(heap: Global, list: &[E::BaseField], x: E) -> anyhow::Result<String>
     ensures { IfOk result (λ text. string_bytes text ≡ shown (of_number E.Field.numbers) (unless_empty (length list.now) (eval E.Field.field (map E.lifted list.now) x))) }
 {
-    write_outcome(heap, evaluate_lifted(list, x).map(ByNumber))
+    write_outcome(heap, evaluate_lifted(list, x).map(ByNumber).map_err(refusal_number))
 }
 
 // A cursor over roots has one field, so that the list is lifted first.
@@ -35,7 +36,7 @@ fn roots_above<E: ExtensionField>(
     let mut lent = vec![in heap; E::ZERO; list.len()]?;
     match lift(list, lent.as_mut_slice()) {
         Ok(_) => roots(heap, lent.as_slice(), base),
-        Err(fault) => write_refusal(heap, fault),
+        Err(fault) => write_refusal(heap, refusal_number(fault)),
     }
 }
 

@@ -7,6 +7,7 @@ use fields::Field;
 use lists::ListFault;
 use replay::elements::write_elements;
 use replay::outcomes::write_refusal;
+use sheet::refusal_number;
 use std::alloc::Global;
 
 /// The outcome is how many entries were written at the front of the list that was lent.
@@ -22,6 +23,6 @@ pub fn write_front<F: Field>(
             let entries = lent.get(..count).context("more entries than were lent")?;
             write_elements(heap, entries)
         }
-        Err(fault) => write_refusal(heap, fault),
+        Err(fault) => write_refusal(heap, refusal_number(fault)),
     }
 }

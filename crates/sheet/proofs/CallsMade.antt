@@ -13,12 +13,12 @@ use Rattle.sheet.proofs.Fronts.{one_before}
 use Rattle.sheet.specs.Pieces.{Part, remark, with_group_before, pieces_after}
 use Rattle.sheet.specs.Calls.{all_done, call_of, calls_of, calls_of_bytes, calls_of_part}
 use Rattle.sheet.specs.Characters.{read_character}
-use Rattle.sheet.specs.Taking.{before_slash, is_other_case, line_case, fault_at_byte, and_then, book_after_character, book_after_bytes, take_line}
+use Rattle.sheet.specs.Taking.{before_slash, is_other_case, line_case, refused_as, fault_at, and_then, book_after_character, book_after_bytes, take_line}
 use Rattle.sheet.specs.declared.characters.Character.{Character}
 use Rattle.sheet.specs.declared.characters.Character.TheVariants.{Symbol, QuestionMark}
 use Rattle.sheet.specs.declared.characters.Case.{Case}
 use Rattle.sheet.specs.declared.fault.LineFault.{LineFault}
-use Rattle.sheet.specs.declared.fault.LineFault.TheVariants.{OtherCase}
+use Rattle.sheet.specs.declared.taking.ByteFault.TheVariants.{OnSlip, OtherCase}
 use Rattle.sheet.proofs.BytesTaken.{accepted, refused}
 
 never : {X : Type 0} (fault : LineFault) (b : Book) → ◌≡◌ {A = Result Book LineFault} (Err fault) (Ok b) → X
@@ -60,18 +60,18 @@ pieces_calls (byte ∷ bytes) front =
 module _ (case : Case) (place byte : ℕ) (bytes : List ℕ) (b last : Book)
     (rest : (c : Book) → book_after_bytes true case (place + 1) bytes c ≡ Ok last → Leads c (all_done (calls_of_bytes bytes)) last) where
   call_leads : (call : BookCall) (called : Result Book SlipFault) → Follows b call (plain_answer of_slip called) (book_after b called)
-      → and_then (fault_at_byte place called) (book_after_bytes true case (place + 1) bytes) ≡ Ok last → Leads b (all_done (call ∷ calls_of_bytes bytes)) last
+      → and_then (refused_as (fault_at place) (refused_as OnSlip called)) (book_after_bytes true case (place + 1) bytes) ≡ Ok last → Leads b (all_done (call ∷ calls_of_bytes bytes)) last
   call_leads call (Ok next) follows e = (next, follows, rest next e)
   call_leads call (Err fault) follows e = never _ last e
 
   write_leads : (v : ℕ) (other : Bool) (called : Result Book SlipFault) → Follows b (write v) (plain_answer of_slip called) (book_after b called)
-      → and_then (cond other (Err (OtherCase place)) (fault_at_byte place called)) (book_after_bytes true case (place + 1) bytes) ≡ Ok last
+      → and_then (refused_as (fault_at place) (cond other (Err OtherCase) (refused_as OnSlip called))) (book_after_bytes true case (place + 1) bytes) ≡ Ok last
       → Leads b (all_done (write v ∷ calls_of_bytes bytes)) last
   write_leads v true called follows e = never _ last e
   write_leads v false called follows e = call_leads (write v) called follows e
 
   byte_leads : (space : Bool) (says : Option Character) → eqb byte 32 ≡ space → read_character byte ≡ says
-      → and_then (cond space (Ok b) (book_after_character true case place byte says b)) (book_after_bytes true case (place + 1) bytes) ≡ Ok last
+      → and_then (refused_as (fault_at place) (cond space (Ok b) (book_after_character true case byte says b))) (book_after_bytes true case (place + 1) bytes) ≡ Ok last
       → Leads b (all_done (call_of says ++ calls_of_bytes bytes)) last
   byte_leads true says s is e =
       subst (λ (calls : List BookCall). Leads b (all_done (calls ++ calls_of_bytes bytes)) last) (sym (no_call says (sym is ∙ space_outside byte s))) (rest b e)
