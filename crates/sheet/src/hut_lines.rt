@@ -16,11 +16,10 @@ use crate::sheet_fault::{Cause, SheetFault};
 use crate::taking::take_line;
 use book::{CallFault, CodeFault};
 use checksum::Finish;
-use script::run::run;
-use script::{Answer, Call, CodeSet, Lent, Listing, Reply, Single, Step};
+use script::call::call;
+use script::{Answer, Call, CodeSet, Lent, Listing, Reply, Single};
 use slip::Slip;
 use std::marker::PhantomData;
-use std::slice;
 
 // What a settle is lent. No code asks for more.
 const LENT: Lent = Lent {
@@ -104,22 +103,15 @@ fn mend(slip: &mut Slip) -> Result<Listing, CodeFault>
     }
 }
 
-// A script of one step, on the only slip.
+// The call. A workspace is made for it: every line is finished by itself.
 fn settle(slip: &mut Slip) -> Reply
     ensures follows { Follows slip.old (settle finish_numeric 16 216) (book_answer result) slip.new }
     ensures decided { HasOneAnswer finish_numeric }
 {
     let code = Single::<Finish> { code: PhantomData };
-    let steps = [Step {
-        slip: 0,
-        call: Call::Settle(code, LENT),
-    }];
-    let mut replies = [Ok(Answer::Done)];
-    run(
-        slice::from_mut(slip),
-        &steps,
-        &mut replies,
+    call(
+        slip,
+        Call::Settle(code, LENT),
         &mut Single::<Finish>::workspace(),
-    );
-    replies[0]
+    )
 }
