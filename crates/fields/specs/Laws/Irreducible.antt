@@ -3,7 +3,7 @@ use Rattle.std.specs.Prelude.{◌≡◌, ℕ, ◌<◌, not, T, ◌==◌, bit_xor
 use Rattle.std.proofs.Common.{ap, subst}
 use Rattle.std.proofs.lemmas.Bool.{eq-eqb}
 use Rattle.fields.specs.Binary.{binary_product}
-use Rattle.fields.specs.Every.{every_at}
+use Rattle.algebra.proofs.Tests.{every_at}
 use Rattle.fields.specs.Gf32.{gf32}
 use Rattle.fields.specs.declared.gf32.Fe32.{Fe32}
 
