@@ -1,5 +1,5 @@
 -- What decoding by syndromes has to find.
---   IsGarbled   syndromes are the power sums of changes at errors and at erasures, few enough
+--   IsGarbled   the syndromes are the power sums of changes at errors and erasures, few enough
 --   DecodesTo   decoding finds these errors and these changes
 --   Corrects    whatever was garbled within the bound is decoded
 use Rattle.std.specs.List.{AllByRecursion}

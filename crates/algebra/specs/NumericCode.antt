@@ -1,5 +1,5 @@
--- A code as its rows know it, in numbers alone, so that a call can carry it.
---   NumericCode  a code's numbers, the difference of two symbols, and which rows are sound
+-- A code in numbers alone, so that a call can carry it.
+--   NumericCode    a code's sizes, the difference of two symbols, and which rows are sound
 --   numeric_code   a code over a field, by the numbers of its symbols
 use Rattle.std.specs.List.{list_all}
 use Rattle.std.specs.Prelude.{◌≡◌, ℕ, Bool, ◌&&◌, ◌==◌, List, length, map, nat_lt}

@@ -2,8 +2,7 @@
 use Rattle.std.proofs.Common.{◌≡◌, [], ◌∷◌, refl, ap, ◌∙◌}
 use Rattle.algebra.specs.Pair.{pair_mul}
 use Rattle.algebra.proofs.Solver.{:0, :1, ◌:+◌, ◌:*◌, :-◌, ◌:-◌, v0, v1, v2, solve}
-use Rattle.algebra.proofs.Quadratic.{quadratic, solve₂, norm_ne_zero}
-use Rattle.algebra.proofs.Carried.{carried}
+use Rattle.algebra.proofs.Quadratic.{solve₂, norm_ne_zero}
 use Rattle.fields.specs.Gf32.{gf32}
 use Rattle.fields.specs.declared.gf32.Fe32.{Fe32}
 use Rattle.fields.specs.Laws.Irreducible.{no_square}

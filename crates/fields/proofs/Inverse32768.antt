@@ -1,8 +1,6 @@
 -- Inverses in GF(32768): cofactors over the determinant.
 use Rattle.std.proofs.Common.{◌≡◌, ap, ◌∙◌}
-use Rattle.algebra.proofs.Cubic.{cubic}
 use Rattle.algebra.proofs.CubicInverse.{times_cofactors, determinant_ne_zero}
-use Rattle.algebra.proofs.Carried.{carried}
 use Rattle.fields.specs.Gf32.{gf32}
 use Rattle.fields.specs.declared.gf32.Fe32.{Fe32}
 use Rattle.fields.specs.Laws.Irreducible.{no_cube}

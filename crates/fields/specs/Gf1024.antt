@@ -1,9 +1,10 @@
 -- GF(1024) over the struct itself, as pairs over GF(32) with ζ² = 1 + ζ.
---   gf1024           its operations with their laws
---   fe1024_decides   a test of both parts tells whether two elements are one
---   gf1024_numbers   c0 + c1 ζ has the number c0 + 32 c1
---   gf1024_generator a generator of the elements but ZERO
---   lift1024         where an element of GF(32) stands in it
+--   gf1024_operations   its sum, product, negative and inverse
+--   gf1024              the field: these, and their laws, which are those of the pairs
+--   fe1024_decides      a test of both parts tells whether two elements are one
+--   gf1024_numbers      c0 + c1 ζ has the number c0 + 32 c1
+--   gf1024_generator    an element whose powers are all elements but ZERO
+--   lift1024            an element of GF(32) as one of GF(1024)
 use Rattle.std.specs.Prelude.{◌≡◌, ℕ, ◌<◌, ◌+◌, ◌*◌, ◌/◌, ◌%◌, ◌==◌, ◌&&◌, refl, Decides}
 use Rattle.std.proofs.Common.{ap, ap₂, ◌∙◌, arith, lit<, lit≤}
 use Rattle.std.proofs.lemmas.Bool.Decides.{Decides-and, Decides-like}
@@ -40,7 +41,7 @@ gf1024_operations = record {
   inv = λ x. of_pair (quotient gf32 gf32.𝟙 gf32.𝟙 (pair x));
 }
 
--- they are those of the pairs
+-- the field of the pairs, carried to the struct
 abbrev pairs : FieldOn Fe1024
 pairs = carried (quadratic gf32 gf32.𝟙 gf32.𝟙 no_square) pair of_pair (λ x. refl) (λ p. refl)
 

@@ -1,4 +1,8 @@
--- GF(32) over the struct itself: its operations, its numbers, a generator of its elements but ZERO.
+-- GF(32) over the struct itself, as binary polynomials modulo t^5 + t^3 + 1.
+--   gf32_operations   its sum, product, negative and inverse: of an element but ZERO its 30th power
+--   gf32              the field: these, and their laws
+--   gf32_numbers      the number of an element
+--   gf32_generator    t, whose powers are all elements but ZERO
 use Rattle.std.specs.Prelude.{◌≡◌, ℕ, ◌%◌, ◌<◌, ◌==◌, bit_xor, Decides}
 use Rattle.std.proofs.Common.{ap, mod-lt, mod-eq_of_lt, arith, lit<, lit≤}
 use mathlib.Core.HLevel.{is_prop→PathP}
@@ -26,7 +30,6 @@ fe_dec_eq x y = elim (ℕ_discrete x.value y.value) [ yes e ↦ yes (fe_path x y
 pub fe_decides : (x y : Fe32) → Decides (x.value == y.value) (x ≡ y)
 fe_decides x y = Decides-like _ (fe_path x y) (ap (λ z. z.value)) (Decides-eqb x.value y.value)
 
--- each element but ZERO has its 30th power as its inverse
 abbrev pub gf32_operations : Operations Fe32
 gf32_operations = record {
   𝟘 = fe 0 (lit< tt);

@@ -1,9 +1,10 @@
 -- GF(32768) over the struct itself, as triples over GF(32) with ζ³ = 1 + ζ.
---   gf32768           its operations with their laws
---   fe32768_decides   a test of the three parts tells whether two elements are one
---   gf32768_numbers   c0 + c1 ζ + c2 ζ² has the number c0 + 32 c1 + 1024 c2
---   gf32768_generator a generator of the elements but ZERO
---   lift32768         where an element of GF(32) stands in it
+--   gf32768_operations   its sum, product, negative and inverse
+--   gf32768              the field: these, and their laws, which are those of the triples
+--   fe32768_decides      a test of the three parts tells whether two elements are one
+--   gf32768_numbers      c0 + c1 ζ + c2 ζ² has the number c0 + 32 c1 + 1024 c2
+--   gf32768_generator    an element whose powers are all elements but ZERO
+--   lift32768            an element of GF(32) as one of GF(32768)
 use Rattle.std.specs.Prelude.{◌≡◌, ℕ, ◌<◌, ◌+◌, ◌*◌, ◌/◌, ◌%◌, ◌==◌, ◌&&◌, refl, Decides}
 use Rattle.std.proofs.Common.{ap, ◌∙◌, arith, lit<, lit≤}
 use Rattle.std.proofs.lemmas.Bool.Decides.{Decides-and, Decides-like}
@@ -44,7 +45,7 @@ gf32768_operations = record {
   inv = λ x. of_triple (inverse gf32 (triple x));
 }
 
--- they are those of the triples
+-- the field of the triples, carried to the struct
 abbrev triples : FieldOn Fe32768
 triples = carried (cubic gf32 no_cube) triple of_triple (λ x. refl) (λ t. refl)
 

@@ -1,6 +1,7 @@
 -- What a monoid is, its values joined to themselves, and the two monoids of a field.
 --   IsMonoid neutral op     op may be grouped in any way, and the neutral value changes no other
---   repeated neutral op x n x joined n times
+--   repeat neutral op x n   x joined n times
+--   sum_unit, sum_of, product_unit, product_of   the sums and the products of a field
 use Rattle.std.specs.Prelude.{◌≡◌, ℕ, zero, suc}
 use Rattle.std.proofs.Common.{ap}
 use Rattle.algebra.specs.Field.{FieldOn}

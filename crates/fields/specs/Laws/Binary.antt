@@ -1,4 +1,4 @@
--- The laws of the product below 32, each by one test of all cases that antt computes.
+-- The laws of the product below 32, each by a test of all cases, which is computed when the proof is checked.
 use Rattle.std.specs.Prelude.{◌≡◌, ℕ, zero, suc, ◌<◌, bit_xor, nat_eq, nat_lt, refl}
 use Rattle.std.proofs.Common.{arith, eqb→eq, ltb→lt}
 use Rattle.fields.specs.Binary.{binary_product, binary_power}

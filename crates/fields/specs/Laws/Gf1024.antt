@@ -4,7 +4,6 @@ use Rattle.std.specs.Prelude.{[], ◌∷◌, refl}
 use Rattle.algebra.specs.Field.{IsCyclic, HasCharacteristicTwo, HasOrder, IsEmbedding}
 use Rattle.algebra.specs.Pair.{Pair}
 use Rattle.algebra.proofs.Quadratic.{quadratic, quadratic_lifts}
-use Rattle.algebra.proofs.Carried.{carried}
 use Rattle.algebra.proofs.Squaring.{squaring}
 use Rattle.fields.specs.Binary.{binary_product}
 use Rattle.fields.specs.Gf32.{gf32, gf32_numbers}

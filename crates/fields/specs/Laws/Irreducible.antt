@@ -1,4 +1,4 @@
--- No element r of GF(32) has r² = 1 + r, and none r³ = r + 1: tests of 32 cases that antt computes.
+-- No element r of GF(32) has r² = 1 + r, and none has r³ = r + 1: tests of 32 cases, computed when the proof is checked.
 use Rattle.std.specs.Prelude.{◌≡◌, ℕ, ◌<◌, not, T, ◌==◌, bit_xor}
 use Rattle.std.proofs.Common.{ap, subst}
 use Rattle.std.proofs.lemmas.Bool.{eq-eqb}

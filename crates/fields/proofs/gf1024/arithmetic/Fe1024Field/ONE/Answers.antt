@@ -1,6 +1,4 @@
 use Rattle.std.proofs.Common.{refl, ap₂}
-use Rattle.algebra.proofs.Quadratic.{quadratic}
-use Rattle.algebra.proofs.Carried.{carried}
 use Rattle.fields.specs.Gf32.{gf32, fe_path}
 use Rattle.fields.specs.Gf1024.{gf1024, fe1024}
 use Rattle.fields.proofs.gf1024.arithmetic.Fe1024Field.ONE.Goals as goal

@@ -1,6 +1,4 @@
 use Rattle.std.proofs.Common.{ap₂}
-use Rattle.algebra.proofs.Quadratic.{quadratic}
-use Rattle.algebra.proofs.Carried.{carried}
 use Rattle.fields.specs.Gf32.{gf32}
 use Rattle.fields.specs.Gf1024.{gf1024, fe1024}
 use Rattle.fields.proofs.gf1024.arithmetic.Fe1024Field.mul.Goals as goal

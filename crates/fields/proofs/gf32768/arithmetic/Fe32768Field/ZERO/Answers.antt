@@ -1,6 +1,4 @@
 use Rattle.std.proofs.Common.{refl}
-use Rattle.algebra.proofs.Cubic.{cubic}
-use Rattle.algebra.proofs.Carried.{carried}
 use Rattle.fields.specs.Gf32.{gf32, fe_path}
 use Rattle.fields.specs.Gf32768.{gf32768, fe32768_path}
 use Rattle.fields.proofs.gf32768.arithmetic.Fe32768Field.ZERO.Goals as goal
