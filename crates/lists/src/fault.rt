@@ -6,7 +6,7 @@ ghost use Rattle.lists.specs.declared.fault.ListFault.TheVariants.{Field as of_f
 use fields::FieldFault;
 
 /// Why a list is refused.
-#[derive(Clone, Copy, PartialEq, Eq, Debug)]
+#[derive(Clone, Copy, Debug)]
 pub enum ListFault {
     /// A list that was given has no entry.
     Empty,

@@ -2,7 +2,8 @@
 use Rattle.algebra.specs.NumericCode.{NumericCode}
 use Rattle.book.specs.Codes.{IsLawful}
 use Rattle.book.proofs.Same.{same, Named}
-use Rattle.script.specs.Script.{book_call, IsDecided}
+use Rattle.book.specs.Calls.{IsDecided}
+use Rattle.script.specs.Script.{book_call}
 use Rattle.script.specs.declared.script.Call.{Call}
 use Rattle.script.specs.declared.script.Call.TheVariants.{Write, Blank, Doubt, Wipe, Seal, Solve, Settle}
 
@@ -16,5 +17,5 @@ module _ {K : Type 0} (codes : K → NumericCode) (law : (k : K) → IsLawful (c
   named (Solve k lent) = law k
   named (Settle k lent) = law k
 
-  pub decided : IsDecided codes
-  decided b call a a' next next' f g = same (named call) f g
+  pub decided : (call : Call K) → IsDecided (book_call codes call)
+  decided call b a a' next next' f g = same (named call) f g

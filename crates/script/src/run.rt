@@ -1,9 +1,10 @@
 // Running a script.
-ghost use Rattle.std.specs.Prelude.{◌≡◌, length};
-ghost use Rattle.book.specs.Calls.{Follows, solve, settle};
+ghost use Rattle.std.specs.Prelude.{◌≡◌, ◌≤◌, IfOk, length};
+ghost use Rattle.book.specs.Calls.{Follows, IsDecided, solve, settle};
 ghost use Rattle.book.specs.Promise.{KeepsPromise};
 ghost use Rattle.correction.specs.Answers.{search_answer};
-ghost use Rattle.script.specs.Script.{book_call, book_answer, IsFew, LeadsEachSlip, LeadsEachFreshSlip, IsDecided, LeavesReplies};
+ghost use Rattle.script.specs.declared.script.Call.{Call};
+ghost use Rattle.script.specs.Script.{book_call, book_answer, LeadsEachSlip, LeadsEachFreshSlip, LeavesReplies};
 
 use crate::codes::CodeSet;
 use crate::listing::Listing;
@@ -28,7 +29,7 @@ pub fn run<K: CodeSet>(
 )
     ensures stories { LeadsEachSlip K.codes slips.old steps.now replies.new slips.new }
     ensures fresh { LeadsEachFreshSlip K.codes slips.old steps.now replies.new slips.new }
-    ensures decided { IsDecided K.codes }
+    ensures decided { (call : Call K) → IsDecided (book_call K.codes call) }
     ensures promise { (k : K) → KeepsPromise (K.codes k) }
     ensures untouched { LeavesReplies (length slips.old) steps.now replies.old replies.new }
 {
@@ -86,7 +87,7 @@ fn settle_step<K: CodeSet>(slip: &mut Slip, code: K, lent: Lent, workspace: &mut
 
 // What is told of a search by its answer and by the records that it was lent.
 fn reply(found: Result<(usize, usize), CodeFault>, records: &[Record; 16]) -> Reply
-    requires { IsFew found }
+    requires { IfOk found (λ counts. counts.0 ≤ 16) }
     ensures { book_answer result ≡ search_answer found records.now }
 {
     let (written, nonzero) = found?;
