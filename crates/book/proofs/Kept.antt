@@ -10,6 +10,7 @@ use Rattle.book.specs.Promise.{IsRefusal, IsWorkable, SolveGives, SettleGives, G
 use Rattle.book.specs.declared.call_fault.CallFault.TheVariants.{Slip as of_slip}
 use Rattle.book.specs.declared.record.Record.{Record}
 use Rattle.book.specs.declared.slip_fault.SlipFault.TheVariants.{Absent}
+use Rattle.book.proofs.OnlyPattern.{only_pattern}
 use Rattle.book.proofs.Same.{same, within, workable}
 
 gives : (C : NumericCode) → IsLawful C → (b : Book) (n : List ℕ) (r w : ℕ) → IsWorkable C r w b → IsNear C b n → Gives C r w b n
@@ -73,4 +74,4 @@ one_more C law b next r w cs i j (solves (one_near {n = n} e x)) =
     )
 
 pub promise : (C : NumericCode) → IsLawful C → KeepsPromise C
-promise C law = record { restores = gives C law; refuses = refuses C; one_more = one_more C law }
+promise C law = record { restores = gives C law; refuses = refuses C; one_more = one_more C law; one_pattern = λ b n below short near. only_pattern C law b below n short near }

@@ -9,5 +9,6 @@ pub mod ReadingOff
 pub mod Sealed
 pub mod Refusals
 pub mod Taking
+pub mod Barred
 pub mod Shown
 pub mod Written

@@ -1,10 +1,10 @@
-use Rattle.std.proofs.Common.{◌≡◌, ◌<◌, length, take, drop, reverse, ap, ◌∙◌, arith}
-use Rattle.std.proofs.lemmas.List.{length-take-le, length-reverse, take_at}
+use Rattle.std.proofs.Common.{◌≡◌, ◌<◌, length, take, drop, ap, ◌∙◌, arith}
+use Rattle.std.proofs.lemmas.List.{length-take-le, take_at}
 use Rattle.algebra.specs.Code.{checks}
 use Rattle.algebra.specs.Poly.{poly_sub}
 use Rattle.algebra.proofs.Poly.{length_poly_sub}
 use Rattle.checksum.proofs.Replaced.{replaced_all, coeff_left, difference_more}
-use Rattle.checksum.proofs.engine.Engine.missing.Goals as goal
+use Rattle.checksum.proofs.engine.Engine.subtract_from_target.Goals as goal
 
 pub loop-power-preserved : goal.loop-power-preserved
 loop-power-preserved g c =
@@ -37,9 +37,8 @@ returns g c =
     let new = poly_sub F code.target old in
     let many = length-take-le c.CHECKSUM_LENGTH.result entries (omega (arith, c.self.invariant)) in
     let long : length new ≡ length old = length_poly_sub F code.target old (omega arith) ∙ omega arith in
-    let held : old ≡ c.args.self = ap (λ n. take n entries) is-k ∙ c.self.view_is in
-    let turned = length-reverse c.loop-power.residue in
-    take_at c.reverse.new.self (drop c.CHECKSUM_LENGTH.result entries) (checks code) (ap length c.reverse.ensures.after ∙ omega arith)
-    ∙ c.reverse.ensures.after
-    ∙ ap reverse (c.loop-power.invariant ∙ replaced_all new old long c.loop-power.power c.loop-power-test.false)
-    ∙ ap (λ r. reverse (poly_sub F code.target r)) held
+    let held : old ≡ c.args.self.now = ap (λ n. take n entries) is-k ∙ c.self.view_is in
+    take_at c.loop-power.residue (drop c.CHECKSUM_LENGTH.result entries) (checks code) (omega arith)
+    ∙ c.loop-power.invariant
+    ∙ replaced_all new old long c.loop-power.power c.loop-power-test.false
+    ∙ ap (poly_sub F code.target) held

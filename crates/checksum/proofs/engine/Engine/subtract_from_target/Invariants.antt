@@ -1,6 +1,6 @@
 use Rattle.std.proofs.Common.{◌≡◌, ◌++◌, take, drop}
 use Rattle.algebra.specs.Poly.{poly_sub}
-use Rattle.checksum.proofs.engine.Engine.missing.Given as goal
+use Rattle.checksum.proofs.engine.Engine.subtract_from_target.Given as goal
 
 abbrev pub invariant-loop-power : goal.invariant-loop-power
 invariant-loop-power g l =
