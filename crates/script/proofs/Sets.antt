@@ -3,10 +3,11 @@ use Rattle.std.proofs.Common.{ℕ, Ok, Err}
 use Rattle.algebra.specs.NumericCode.{NumericCode}
 use Rattle.book.specs.Codes.{IsLawful}
 use Rattle.book.proofs.Same.{same, Named}
+use Rattle.book.specs.Calls.{IsDecided}
 use Rattle.book.specs.declared.call_fault.CallFault.TheVariants.{Slip as of_slip, Code as of_code}
 use Rattle.book.specs.declared.code_fault.CodeFault.{CodeFault}
 use Rattle.book.specs.declared.code_fault.CodeFault.TheVariants.{Short, Long, Records, Working, Doubts, Unfit}
-use Rattle.script.specs.Script.{book_call, IsDecided, Reply, workspace_after_call, workspace_after_fault, workspace_after_reply}
+use Rattle.script.specs.Script.{book_call, Reply, workspace_after_call, workspace_after_fault, workspace_after_reply}
 use Rattle.script.specs.declared.script.Call.{Call}
 use Rattle.script.specs.declared.script.Call.TheVariants.{Write, Blank, Doubt, Wipe, Seal, Solve, Settle}
 
@@ -20,8 +21,8 @@ module _ {K : Type 0} (codes : K → NumericCode) (law : (k : K) → IsLawful (c
   named (Solve k lent) = law k
   named (Settle k lent) = law k
 
-  pub decided : IsDecided codes
-  decided b call a a' next next' f g = same (named call) f g
+  pub decided : (call : Call K) → IsDecided (book_call codes call)
+  decided call b a a' next next' f g = same (named call) f g
 
 -- a call leaves a clear workspace clear
 module _ {K W : Type 0} (clear : W → Type 0) (cleared : K → ℕ → W → W) (stays : (k : K) (w : ℕ) (space : W) → clear space → clear (cleared k w space)) where

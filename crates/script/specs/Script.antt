@@ -4,13 +4,12 @@
 --   calls_on       the calls on one slip, with the answers that they got
 --   LeadsEachSlip   for each slip, its calls lead from the book that it held to the book that it holds
 --   LeadsEachFreshSlip   the same of fresh slips
---   IsDecided      the book and the call decide the answer and the book after
 --   LeavesReplies   where nothing was asked, a reply is as it was
 --   workspace_left, workspace_after_call   the workspace after a search, and after any call
 use Rattle.std.specs.List.{AllByRecursion}
 use Rattle.std.specs.Prelude.{◌≡◌, ℕ, zero, suc, ◌<◌, ◌≤◌, cond, List, [], ◌∷◌, length, Ok, Err, Result, ◌==◌, slice_index_or}
 use Rattle.book.specs.Book.{Book, fresh_book}
-use Rattle.book.specs.Calls.{BookCall, Follows, write, blank, doubt, wipe, seal, solve, settle, done, refused, listed, BookAnswer}
+use Rattle.book.specs.Calls.{BookCall, write, blank, doubt, wipe, seal, solve, settle, done, refused, listed, BookAnswer}
 use Rattle.algebra.specs.NumericCode.{NumericCode}
 use Rattle.book.specs.Story.{Leads, IsStory}
 use Rattle.book.specs.declared.code_fault.CodeFault.{CodeFault}
@@ -51,10 +50,6 @@ LeadsEachSlip codes before ts rs after = (i : ℕ) → i < length before → Lea
 
 abbrev pub LeadsEachFreshSlip : {K : Type 0} → (K → NumericCode) → List Book → List (Step K) → List Reply → List Book → Type 0
 LeadsEachFreshSlip codes before ts rs after = AllByRecursion (λ b. b ≡ fresh_book) before → (i : ℕ) → i < length before → IsStory (calls_on codes i ts rs) (slice_index_or after i fresh_book)
-
-abbrev pub IsDecided : {K : Type 0} → (K → NumericCode) → Type 0
-IsDecided {K} codes = (b : Book) (call : Call K) (a a' : BookAnswer) (next next' : Book)
-    → Follows b (book_call codes call) a next → Follows b (book_call codes call) a' next' → (a ≡ a') × (next ≡ next')
 
 -- nothing was asked at place j: it lies past the steps, or its step names none of the m slips
 abbrev pub IsUncalled : {K : Type 0} → ℕ → List (Step K) → ℕ → Type 0

@@ -1,8 +1,8 @@
 // Making one call on a slip.
 ghost use Rattle.std.specs.Prelude.{◌≡◌};
-ghost use Rattle.book.specs.Calls.{Follows, solve, settle};
+ghost use Rattle.book.specs.Calls.{Follows, IsDecided, solve, settle};
 ghost use Rattle.book.specs.Promise.{KeepsPromise};
-ghost use Rattle.script.specs.Script.{book_call, book_answer, IsDecided, workspace_after_call, workspace_after_reply};
+ghost use Rattle.script.specs.Script.{book_call, book_answer, workspace_after_call, workspace_after_reply};
 
 use crate::codes::CodeSet;
 use crate::listing::Listing;
@@ -14,7 +14,7 @@ use slip::Slip;
 /// another row. A search leaves ZEROs where it worked, and a refusal before it leaves the workspace as it was.
 pub fn call<K: CodeSet>(slip: &mut Slip, call: Call<K>, workspace: &mut K::Workspace) -> Reply
     ensures follows { Follows slip.old (book_call K.codes call) (book_answer result) slip.new }
-    ensures decided { IsDecided K.codes }
+    ensures decided { IsDecided (book_call K.codes call) }
     ensures promise { (k : K) → KeepsPromise (K.codes k) }
     ensures working { workspace.new ≡ workspace_after_call K.cleared call result workspace.old }
 {

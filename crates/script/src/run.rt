@@ -1,7 +1,9 @@
 // Running a script.
 ghost use Rattle.std.specs.Prelude.{length};
+ghost use Rattle.book.specs.Calls.{IsDecided};
 ghost use Rattle.book.specs.Promise.{KeepsPromise};
-ghost use Rattle.script.specs.Script.{LeadsEachSlip, LeadsEachFreshSlip, IsDecided, LeavesReplies};
+ghost use Rattle.script.specs.declared.script.Call.{Call};
+ghost use Rattle.script.specs.Script.{book_call, LeadsEachSlip, LeadsEachFreshSlip, LeavesReplies};
 
 use crate::call::call;
 use crate::codes::CodeSet;
@@ -24,7 +26,7 @@ pub fn run<K: CodeSet>(
 )
     ensures stories { LeadsEachSlip K.codes slips.old steps.now replies.new slips.new }
     ensures fresh { LeadsEachFreshSlip K.codes slips.old steps.now replies.new slips.new }
-    ensures decided { IsDecided K.codes }
+    ensures decided { (call : Call K) → IsDecided (book_call K.codes call) }
     ensures promise { (k : K) → KeepsPromise (K.codes k) }
     ensures clear { K.clear workspace.old → K.clear workspace.new }
     ensures untouched { LeavesReplies (length slips.old) steps.now replies.old replies.new }
