@@ -1,5 +1,5 @@
 -- A line that is refused is refused for its first bad byte.
-use Rattle.std.proofs.Common.{◌≡◌, ℕ, zero, suc, ◌+◌, ◌<◌, ◌≤◌, Bool, true, false, cond, not, eqb, ltb, leb, List, [], ◌∷◌, ◌++◌, length, take, get_or, Some, None, Ok, Err, Option, Result, sym, refl, ap, ◌∙◌, subst, arith}
+use Rattle.std.proofs.Common.{◌≡◌, ℕ, zero, suc, ◌+◌, ◌<◌, ◌≤◌, Bool, true, false, cond, eqb, ltb, leb, List, [], ◌∷◌, ◌++◌, length, take, get_or, Some, None, Ok, Err, Option, Result, sym, refl, ap, ◌∙◌, arith}
 use Rattle.std.specs.Prelude.{All}
 use Rattle.std.specs.Char.{to_ascii_lowercase}
 use Rattle.std.specs.Option.{is_some}
@@ -7,7 +7,6 @@ use Rattle.std.proofs.lemmas.Bool.{eqb-true, eqb-false}
 use Rattle.std.proofs.lemmas.Bool.Decides.{nat_tests}
 use Rattle.std.proofs.lemmas.List.{length_push}
 use Rattle.book.specs.Book.{Book, Place, fresh_book, undoubted_place, doubted_place}
-use Rattle.book.specs.declared.slip_fault.SlipFault.{SlipFault}
 use Rattle.book.specs.declared.slip_fault.SlipFault.TheVariants as slips
 use Rattle.sheet.specs.Barred.{Bars, IsBarred, is_admissible, is_character, unspaced}
 use Rattle.sheet.specs.Characters.{alphabet, read_character, symbol_from}

@@ -5,6 +5,7 @@ pub mod ColumnsReadBack
 pub mod SideBySide
 pub mod BytesTaken
 pub mod CallsMade
+pub mod ByPieces
 pub mod FirstBad
 pub mod EightSealed
 pub mod Placing

@@ -19,8 +19,8 @@ abbrev pub calls_of_bytes : List ℕ → List BookCall
 calls_of_bytes bytes = flat_map (λ byte. call_of (read_character byte)) bytes
 
 abbrev pub calls_of_part : Part → List BookCall
-calls_of_part (group bytes) = calls_of_bytes bytes
-calls_of_part (remark bytes) = []
+calls_of_part (group place bytes) = calls_of_bytes bytes
+calls_of_part (remark place bytes) = []
 
 abbrev pub calls_of : List ℕ → List BookCall
 calls_of line = wipe ∷ flat_map calls_of_part (pieces line)

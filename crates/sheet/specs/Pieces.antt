@@ -1,24 +1,28 @@
--- The pieces of a line: groups, and the remark behind the first slash.
-use Rattle.std.specs.Prelude.{ℕ, suc, Bool, cond, ◌||◌, List, [], ◌∷◌, ◌++◌, ◌==◌}
+-- The pieces of a line, each with its place in the line: groups, and the remark after the first slash.
+use Rattle.std.specs.Prelude.{ℕ, suc, ◌+◌, Bool, cond, ◌||◌, List, [], ◌∷◌, ◌++◌, length, ◌==◌}
 
 pub data Part : Type 0 where
-  group : List ℕ → Part
-  remark : List ℕ → Part
+  group : ℕ → List ℕ → Part
+  remark : ℕ → List ℕ → Part
 
 -- a group in front of other pieces, if it has a byte
-abbrev pub with_group_before : List ℕ → List Part → List Part
-with_group_before [] parts = parts
-with_group_before (byte ∷ bytes) parts = group (byte ∷ bytes) ∷ parts
+abbrev pub with_group_before : ℕ → List ℕ → List Part → List Part
+with_group_before place [] parts = parts
+with_group_before place (byte ∷ bytes) parts = group place (byte ∷ bytes) ∷ parts
 
--- the pieces of a line whose first group begins with some bytes: a slash ends the groups, and a space ends a group
-abbrev pub pieces_after : List ℕ → List ℕ → List Part
-pieces_after front [] = with_group_before front []
-pieces_after front (byte ∷ bytes) =
-    cond (byte == 47) (with_group_before front (remark bytes ∷ []))
-    (cond (byte == 32) (with_group_before front (pieces_after [] bytes)) (pieces_after (front ++ byte ∷ []) bytes))
+-- the pieces from a place on, where a group begins with some bytes: a slash ends the groups, and a space ends a group
+abbrev pub pieces_after : ℕ → List ℕ → List ℕ → List Part
+pieces_after place front [] = with_group_before place front []
+pieces_after place front (byte ∷ bytes) =
+    cond (byte == 47) (with_group_before place front (remark (place + length front + 1) bytes ∷ []))
+    (cond (byte == 32) (with_group_before place front (pieces_after (place + length front + 1) [] bytes))
+    (pieces_after place (front ++ byte ∷ []) bytes))
+
+abbrev pub pieces_from : ℕ → List ℕ → List Part
+pieces_from place line = pieces_after place [] line
 
 abbrev pub pieces : List ℕ → List Part
-pieces line = pieces_after [] line
+pieces line = pieces_from 0 line
 
 -- how many spaces stand at the front
 abbrev pub leading_spaces : List ℕ → ℕ

@@ -9,6 +9,7 @@ use Rattle.std.specs.Option.{unwrap_or}
 use Rattle.std.specs.Char.{is_ascii_lowercase, is_ascii_uppercase}
 use Rattle.book.specs.Book.{Book, fresh_book, write, blank}
 use Rattle.sheet.specs.Characters.{letter_case, read_character}
+use Rattle.sheet.specs.Pieces.{Part, group, remark, pieces}
 use Rattle.sheet.specs.declared.characters.Character.{Character}
 use Rattle.sheet.specs.declared.characters.Character.TheVariants.{Symbol, QuestionMark}
 use Rattle.sheet.specs.declared.characters.Case.{Case}
@@ -66,11 +67,15 @@ book_after_bytes blanks case place [] b = Ok b
 book_after_bytes blanks case place (byte ∷ bytes) b =
     and_then (refused_as (fault_at place) (book_after_byte blanks case byte b)) (book_after_bytes blanks case (place + 1) bytes)
 
-abbrev pub take_groups : Bool → List ℕ → Result Book LineFault
-take_groups blanks groups = book_after_bytes blanks (line_case groups) 0 groups fresh_book
+-- the groups among some pieces, one after another
+abbrev pub book_after_parts : Bool → Case → List Part → Book → Result Book LineFault
+book_after_parts blanks case [] b = Ok b
+book_after_parts blanks case (group place bytes ∷ parts) b =
+    and_then (book_after_bytes blanks case place bytes b) (book_after_parts blanks case parts)
+book_after_parts blanks case (remark place bytes ∷ parts) b = book_after_parts blanks case parts b
 
 abbrev pub take_line : Bool → List ℕ → Result Book LineFault
-take_line blanks line = take_groups blanks (before_slash line)
+take_line blanks line = book_after_parts blanks (line_case (before_slash line)) (pieces line) fresh_book
 
 -- an answer with the book that is left
 abbrev pub book_outcome : {Fault : Type 0} → Result (Unit {0}) Fault → Book → Result Book Fault

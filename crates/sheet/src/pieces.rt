@@ -1,49 +1,60 @@
-// The pieces of a typed line: its groups of characters, and the remark behind the first slash.
-ghost use Rattle.std.specs.Prelude.{◌≡◌, ◌≤◌, length};
+// The pieces of a typed line: its groups of characters, and the remark after the first slash.
+ghost use Rattle.std.specs.Prelude.{◌≡◌, ◌≤◌, length, drop};
 ghost use Rattle.std.specs.Iterator.{YieldsFirstBy, item_count};
 ghost use Rattle.sheet.specs.Pieces.{leading_group, pieces, leading_spaces};
-ghost use Rattle.sheet.specs.Cursors.{bytes_of, remaining_pieces};
+ghost use Rattle.sheet.specs.Cursors.{part_of, remaining_pieces};
 
-/// A piece of a line, as the bytes of the line themselves.
+/// A piece of a line, as the bytes of the line themselves, after the place of the first.
 #[derive(Clone, Copy)]
 pub enum Piece<'a> {
     /// A longest run of bytes before the first slash without a space.
-    Group(&'a [u8]),
+    Group(usize, &'a [u8]),
     /// What follows the first slash: every byte may stand there, or none.
-    Remark(&'a [u8]),
+    Remark(usize, &'a [u8]),
 }
 
 /// A cursor over the pieces of a line: the groups in their order, then the remark.
 #[derive(Drop)]
 pub struct Pieces<'a> {
-    rest: &'a [u8],
+    line: &'a [u8],
+    // How many bytes of the line are done.
+    place: usize,
 }
 
 impl<'a> Pieces<'a> {
     pub fn new(line: &'a [u8]) -> Pieces<'a>
         ensures { remaining_pieces result ≡ pieces line.now }
     {
-        Pieces { rest: line }
+        Pieces { line, place: 0 }
+    }
+
+    // What is left of the line.
+    fn rest(&self) -> &'a [u8]
+        ensures { result.now ≡ drop self.now.place self.now.line.now }
+    {
+        self.line.get(self.place..).unwrap_or(&[])
     }
 }
 
 impl<'a> Iterator for Pieces<'a> {
     type Item = Piece<'a>;
 
-    ghost next_gives = { YieldsFirstBy bytes_of remaining_pieces };
+    ghost next_gives = { YieldsFirstBy part_of remaining_pieces };
 
     ghost remaining = { item_count remaining_pieces };
 
     fn next(&mut self) -> Option<Piece<'a>> {
-        let line = &self.rest[leading_spaces(self.rest)..];
-        let (first, behind) = line.split_first()?;
+        let spaces = leading_spaces(self.rest());
+        let place = self.place + spaces;
+        let ahead = &self.rest()[spaces..];
+        let (first, remark) = ahead.split_first()?;
         if *first == b'/' {
-            self.rest = &[];
-            return Some(Piece::Remark(behind));
+            self.place = self.line.len();
+            return Some(Piece::Remark(place + 1, remark));
         }
-        let (group, rest) = line.split_at(leading_group(line));
-        self.rest = rest;
-        Some(Piece::Group(group))
+        let group = &ahead[..leading_group(ahead)];
+        self.place = place + group.len();
+        Some(Piece::Group(place, group))
     }
 }
 

@@ -1,8 +1,9 @@
 // A typed line, taken onto a slip.
-ghost use Rattle.std.specs.Prelude.{◌≡◌, true, false, [], ◌∷◌, Ok, Err};
+ghost use Rattle.std.specs.Prelude.{◌≡◌, ◌+◌, ◌<◌, ◌^◌, length, true, false, [], ◌∷◌, Ok, Err};
 ghost use Rattle.sheet.specs.Calls.{all_done, calls_of};
-ghost use Rattle.sheet.specs.Taking.{before_slash, is_other_case, line_case, book_outcome, book_after_byte, book_after_bytes, fault_at, take_line};
+ghost use Rattle.sheet.specs.Taking.{before_slash, is_other_case, line_case, book_outcome, book_after_byte, book_after_bytes, book_after_parts, fault_at, take_line};
 ghost use Rattle.sheet.specs.Barred.{IsBarred};
+ghost use Rattle.sheet.specs.Pieces.{pieces};
 ghost use Rattle.sheet.specs.declared.taking.ByteFault.TheVariants.{OnSlip as of_slip};
 ghost use Rattle.book.specs.Book.{book_after, answer_of, fresh_book};
 ghost use Rattle.book.specs.Calls.{done, wipe};
@@ -10,6 +11,7 @@ ghost use Rattle.book.specs.Story.{Leads};
 
 use crate::characters::{Case, Character, letter_case, read_character};
 use crate::fault::LineFault;
+use crate::pieces::{Piece, Pieces};
 use book::SlipFault;
 use slip::Slip;
 
@@ -73,8 +75,7 @@ fn take(slip: &mut Slip, line: &[u8], blanks: bool) -> Result<(), LineFault>
     ensures book { slip.new ≡ book_after fresh_book (take_line blanks line.now) }
 {
     slip.wipe();
-    let groups = before_slash(line);
-    let taken = take_groups(slip, groups, line_case(groups), blanks);
+    let taken = take_pieces(slip, line, line_case(before_slash(line)), blanks);
     if taken.is_err() {
         slip.wipe();
     }
@@ -101,11 +102,29 @@ pub(crate) fn line_case(line: &[u8]) -> Case
         .unwrap_or(Case::Lower)
 }
 
-fn take_groups(slip: &mut Slip, groups: &[u8], case: Case, blanks: bool) -> Result<(), LineFault>
-    ensures { book_outcome result slip.new ≡ book_after_bytes blanks case 0 groups.now slip.old }
+fn take_pieces(slip: &mut Slip, line: &[u8], case: Case, blanks: bool) -> Result<(), LineFault>
+    ensures { book_outcome result slip.new ≡ book_after_parts blanks case (pieces line.now) slip.old }
 {
-    for (place, byte) in groups.iter().enumerate() {
-        take_byte(slip, *byte, case, blanks).map_err(|fault| fault.at(place))?;
+    for piece in Pieces::new(line) {
+        if let Piece::Group(start, bytes) = piece {
+            take_group(slip, start, bytes, case, blanks)?;
+        }
+    }
+    Ok(())
+}
+
+fn take_group(
+    slip: &mut Slip,
+    start: usize,
+    bytes: &[u8],
+    case: Case,
+    blanks: bool,
+) -> Result<(), LineFault>
+    requires { start + length bytes.now < 2 ^ 64 }
+    ensures { book_outcome result slip.new ≡ book_after_bytes blanks case start bytes.now slip.old }
+{
+    for (i, byte) in bytes.iter().enumerate() {
+        take_byte(slip, *byte, case, blanks).map_err(|fault| fault.at(start + i))?;
     }
     Ok(())
 }

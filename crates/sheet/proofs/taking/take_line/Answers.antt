@@ -1,6 +1,7 @@
 use Rattle.std.proofs.Common.{true, sym, ◌∙◌}
 use Rattle.sheet.specs.Taking.{before_slash, line_case, take_line}
 use Rattle.sheet.proofs.BytesTaken.{refused}
+use Rattle.sheet.proofs.ByPieces.{taken_by_bytes}
 use Rattle.sheet.proofs.CallsMade.{line_leads, only_wiped}
 use Rattle.sheet.proofs.FirstBad.{barred}
 use Rattle.sheet.proofs.taking.take_line.Goals as goal
@@ -15,4 +16,4 @@ pub returns-clause-barred : goal.returns-clause-barred
 returns-clause-barred c fault err =
     let line = c.args.line.now in
     let groups = before_slash line in
-    barred (line_case groups) groups fault (refused (take_line true line) fault (sym err ∙ c.take.ensures.answer))
+    barred (line_case groups) groups fault (sym (taken_by_bytes line) ∙ refused (take_line true line) fault (sym err ∙ c.take.ensures.answer))
