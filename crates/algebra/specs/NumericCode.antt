@@ -1,12 +1,12 @@
--- A code as its rows know it, in numbers alone, so that a call can carry it.
---   NumericCode  a code's numbers, the difference of two symbols, and which rows are sound
+-- A code in numbers alone, so that a call can carry it.
+--   NumericCode    a code's sizes, the difference of two symbols, and which rows are sound
 --   numeric_code   a code over a field, by the numbers of its symbols
 use Rattle.std.specs.List.{list_all}
-use Rattle.std.specs.Prelude.{◌≡◌, ℕ, Bool, true, false, not, ◌&&◌, List, [], ◌∷◌, map, nat_lt}
+use Rattle.std.specs.Prelude.{◌≡◌, ℕ, Bool, ◌&&◌, ◌==◌, List, length, map, nat_lt}
 use Rattle.algebra.specs.Code as code
 use Rattle.algebra.specs.Code.{Code, residue}
 use Rattle.algebra.specs.Field.{FieldOn, Enumeration}
-use Rattle.algebra.specs.Rows.{is_other}
+use Rattle.algebra.specs.Rows.{hamming_distance}
 
 pub record NumericCode : Type 0 where
   -- how many symbols there are
@@ -25,10 +25,7 @@ pub record NumericCode : Type 0 where
 
 -- are two lists one?
 abbrev pub is_same_list : {S : Type 0} → ((x y : S) → Dec (x ≡ y)) → List S → List S → Bool
-is_same_list dec_eq [] [] = true
-is_same_list dec_eq [] (y ∷ ys) = false
-is_same_list dec_eq (x ∷ xs) [] = false
-is_same_list dec_eq (x ∷ xs) (y ∷ ys) = not (is_other dec_eq x y) && is_same_list dec_eq xs ys
+is_same_list dec_eq xs ys = length xs == length ys && hamming_distance dec_eq xs ys == 0
 
 -- a row is sound if its numbers are symbols and their residue is the target
 abbrev pub numeric_code : {S E : Type 0} → Enumeration S → FieldOn S → Code S E → NumericCode

@@ -5,7 +5,8 @@ use native.Mathlib.Decide.{ℕ_discrete}
 use Rattle.std.proofs.lemmas.List.{length-map, length-set}
 use Rattle.std.proofs.lemmas.List.Sums.{count_by-le-length, sum_by-append, sum_by-cons}
 use Rattle.std.proofs.lemmas.Bool.{both_ways}
-use Rattle.algebra.specs.Rows.{count_true, is_no, wrong_places, doubted_places, errors}
+use Rattle.algebra.specs.Rows.{count_true, wrong_places, doubted_places, errors}
+use Rattle.algebra.proofs.Decided.{is_no}
 use Rattle.algebra.specs.Series.{Mem, here, there}
 use Rattle.algebra.proofs.Members.{all_append, all_map}
 use Rattle.algebra.specs.Rows as rows

@@ -4,16 +4,17 @@
 --   near_elements a row near by numbers is near by elements
 --   rows_sealed   the seal of a row, by numbers
 use Rattle.std.specs.List.{AllByRecursion, list_all}
-use Rattle.std.proofs.Common.{◌≡◌, ℕ, ◌<◌, ◌≤◌, true, not, ◌&&◌, ltb, List, [], ◌∷◌, ◌++◌, map, length, sym, refl, ap, ◌∙◌, subst, ap₂, arith}
+use Rattle.std.proofs.Common.{◌≡◌, ℕ, ◌<◌, ◌≤◌, true, not, ◌&&◌, eqb, ltb, List, [], ◌∷◌, ◌++◌, map, length, sym, refl, ap, ◌∙◌, subst, ap₂, arith}
 use native.Mathlib.Decide.{ℕ_discrete}
 use lib.ListN.{length-map}
 use Rattle.std.proofs.lemmas.List.{map-append}
-use Rattle.std.proofs.lemmas.Bool.{and_from, and_parts, false≢true, lt-ltb, ltb-true}
+use Rattle.std.proofs.lemmas.Bool.{and_from, and_parts, eq-eqb, eqb-true, false≢true, lt-ltb, ltb-true}
 use Rattle.algebra.specs.Code.{Code, bound, checks, residue, seal, IsSoundRow, IsLawfulCode}
 use Rattle.algebra.specs.Field.{FieldOn, IsEmbedding, Enumeration}
 use Rattle.algebra.specs.Rows as rows
-use Rattle.algebra.specs.Rows.{count_true, different_places, doubted_places, is_other, is_no, symbols, wrong_places, IsNearRow, BookOf, hamming_distance}
-use Rattle.algebra.proofs.Distance.{few_differ}
+use Rattle.algebra.specs.Rows.{count_true, different_places, doubted_places, is_other, symbols, wrong_places, IsNearRow, BookOf, hamming_distance}
+use Rattle.algebra.proofs.Decided.{is_no}
+use Rattle.algebra.proofs.Distance.{differ_none, few_differ}
 use Rattle.algebra.proofs.Members.{all_append, all_right}
 use Rattle.algebra.proofs.Sealing.{length_seal, seal_only, sealed_sound}
 use Rattle.algebra.proofs.Solver.{◌:-◌, v0, v1, solve}
@@ -30,31 +31,21 @@ all_all_below size [] h = refl
 all_all_below size (v ∷ n) h = and_from (ltb v size) (list_all (λ v. ltb v size) n) (lt-ltb v size h.0) (all_all_below size n h.1)
 
 module _ {S : Type 0} (dec_eq : (x y : S) → Dec (x ≡ y)) where
-  same_symbol : (x y : S) → not (is_other dec_eq x y) ≡ true → x ≡ y
-  same_symbol x y = by (dec_eq x y)
-    where
-      by : (q : Dec (x ≡ y)) → not (is_no q) ≡ true → x ≡ y
-      by (yes q) h = q
-      by (no q) h = absurd (false≢true h)
-
-  symbol_same : (x : S) → not (is_other dec_eq x x) ≡ true
-  symbol_same x = by (dec_eq x x)
-    where
-      by : (q : Dec (x ≡ x)) → not (is_no q) ≡ true
-      by (yes q) = refl
-      by (no q) = absurd (q refl)
-
   alike_one : (xs ys : List S) → is_same_list dec_eq xs ys ≡ true → xs ≡ ys
-  alike_one [] [] h = refl
-  alike_one [] (y ∷ ys) h = absurd (false≢true h)
-  alike_one (x ∷ xs) [] h = absurd (false≢true h)
-  alike_one (x ∷ xs) (y ∷ ys) h =
-      let both = and_parts (not (is_other dec_eq x y)) (is_same_list dec_eq xs ys) h in
-      ap₂ ◌∷◌ (same_symbol x y both.0) (alike_one xs ys both.1)
+  alike_one xs ys h =
+      let both = and_parts (eqb (length xs) (length ys)) (eqb (hamming_distance dec_eq xs ys) 0) h in
+      differ_none dec_eq xs ys (eqb-true _ _ both.0) (eqb-true _ _ both.1)
+
+  nowhere_other : (xs : List S) → hamming_distance dec_eq xs xs ≡ 0
+  nowhere_other [] = refl
+  nowhere_other (x ∷ xs) = by (dec_eq x x) (nowhere_other xs)
+    where
+      by : (q : Dec (x ≡ x)) → hamming_distance dec_eq xs xs ≡ 0 → count_true (is_no q ∷ different_places dec_eq xs xs) ≡ 0
+      by (yes q) h = h
+      by (no q) h = absurd (q refl)
 
   one_alike : (xs : List S) → is_same_list dec_eq xs xs ≡ true
-  one_alike [] = refl
-  one_alike (x ∷ xs) = and_from (not (is_other dec_eq x x)) (is_same_list dec_eq xs xs) (symbol_same x) (one_alike xs)
+  one_alike xs = and_from (eqb (length xs) (length xs)) (eqb (hamming_distance dec_eq xs xs) 0) (eq-eqb _ _ refl) (eq-eqb _ _ (nowhere_other xs))
 
 module _ {S : Type 0} (N : Enumeration S) where
   abbrev pub elements : List ℕ → List S

@@ -4,7 +4,7 @@ use Rattle.std.proofs.Common.{◌≡◌, ℕ, zero, suc, ◌+◌, ◌-◌, ◌<�
 use native.Mathlib.Decide.{ℕ_discrete}
 use Rattle.std.proofs.lemmas.List.{get_or_at, set_at, length-map, length_push, length-take-le, take-append-drop}
 use Rattle.std.proofs.lemmas.Bool.{both_ways}
-use Rattle.algebra.specs.Rows.{is_no}
+use Rattle.algebra.proofs.Decided.{is_no}
 use Rattle.book.specs.Book.{Place, Book, row}
 use Rattle.algebra.specs.NumericCode.{NumericCode}
 use Rattle.book.specs.Codes.{IsLawful, IsNear}

@@ -1,14 +1,15 @@
 -- The book of a slip: what its calls alone say that it holds.
 --   Place, Book    a symbol, as a number, and whether it is doubted; a slip's places in their order
 --   row, marks     the symbols of a book, and which of its places are doubted
+--   mark, doubts   a book with one more place doubted, and how many are
 --   fresh_book     the book of a new slip, and of one that was wiped
 --   write, blank, doubt   the book after each call, or why the call is refused
 --   answer, after  what a call answers, and the book that it leaves: a refusal changes nothing
---   symbol_at, doubted_at, doubts   what is read from a book
+--   symbol_at, doubted_at   what is read from a book
 use Rattle.std.specs.Prelude.{ℕ, zero, suc, Bool, true, false, cond, List, [], ◌∷◌, ◌++◌, map, length, Ok, Err, Option, Result, nat_le, nat_lt, slice_index_or}
 use Rattle.std.specs.List.{slice_get}
-use Rattle.algebra.specs.Rows as rows
 use Rattle.algebra.specs.Rows.{PlaceOf, BookOf}
+pub use Rattle.algebra.specs.Rows.{symbols as row, doubted_places as marks, mark, doubts}
 use Rattle.book.specs.declared.slip_fault.SlipFault.{SlipFault}
 use Rattle.book.specs.declared.slip_fault.SlipFault.TheVariants.{Symbol, Full, Absent}
 
@@ -24,12 +25,6 @@ undoubted_place v = record { symbol = v; doubted = false }
 abbrev pub doubted_place : ℕ → Place
 doubted_place v = record { symbol = v; doubted = true }
 
-abbrev pub row : Book → List ℕ
-row = rows.symbols
-
-abbrev pub marks : Book → List Bool
-marks = rows.doubted_places
-
 abbrev pub fresh_book : Book
 fresh_book = []
 
@@ -40,10 +35,6 @@ write v b = cond (nat_lt 31 v) (Err Symbol) (cond (nat_le 89 (length b)) (Err Fu
 -- a symbol more that was not understood
 abbrev pub blank : Book → Result Book SlipFault
 blank b = cond (nat_le 89 (length b)) (Err Full) (Ok (b ++ doubted_place 0 ∷ []))
-
--- the book with a place doubted
-abbrev pub mark : ℕ → Book → Book
-mark = rows.mark
 
 abbrev pub doubt : ℕ → Book → Result Book SlipFault
 doubt place b = cond (nat_le (length b) place) (Err (Absent place)) (Ok (mark place b))
@@ -61,6 +52,3 @@ symbol_at place b = slice_get (row b) place
 
 abbrev pub doubted_at : ℕ → Book → Bool
 doubted_at place b = slice_index_or (marks b) place false
-
-abbrev pub doubts : Book → ℕ
-doubts = rows.doubts

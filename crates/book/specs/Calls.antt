@@ -4,6 +4,7 @@
 --   seal_fault, search_fault   the first reason to refuse that book and arguments alone give, if any
 --   SearchGives   what a search for a near row answers, and the row that it gives, if any
 --   Follows   a call on a book, its answer, and the book after it
+--   IsDecided   a call has one answer on each book, and leaves one book
 use Rattle.std.specs.Prelude.{◌≡◌, ℕ, ◌+◌, ◌*◌, Bool, cond, List, [], ◌∷◌, ◌++◌, map, length, Some, None, Ok, Err, Option, Result, ◌==◌, nat_le, nat_lt}
 use Rattle.book.specs.Book as book
 use Rattle.book.specs.Book.{Book, undoubted_place, row, doubts, fresh_book, book_after}
@@ -70,3 +71,7 @@ pub data Follows : Book → BookCall → BookAnswer → Book → Type 0 where
   seals : {b : Book} {C : NumericCode} {cs : List ℕ} → seal_fault C b ≡ None → IsSeal C (row b) cs → Follows b (seal C) done (b ++ map undoubted_place cs)
   solves : {b : Book} {C : NumericCode} {r w : ℕ} {a : BookAnswer} {found : Option (List ℕ)} → SearchGives C r w b a found → Follows b (solve C r w) a b
   settles : {b : Book} {C : NumericCode} {r w : ℕ} {a : BookAnswer} {found : Option (List ℕ)} → SearchGives C r w b a found → Follows b (settle C r w) a (settled_book b found)
+
+abbrev pub IsDecided : BookCall → Type 0
+IsDecided call = (b : Book) (a a' : BookAnswer) (next next' : Book)
+    → Follows b call a next → Follows b call a' next' → (a ≡ a') × (next ≡ next')

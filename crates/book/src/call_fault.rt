@@ -6,7 +6,7 @@ use crate::code_fault::CodeFault;
 use crate::slip_fault::SlipFault;
 
 /// Why a call on a slip is refused: by the slip, or by the code that it is to be sealed or mended by.
-#[derive(Clone, Copy, PartialEq, Eq, Debug)]
+#[derive(Clone, Copy, Debug)]
 pub enum CallFault {
     Slip(SlipFault),
     Code(CodeFault),

@@ -1,7 +1,7 @@
 // Why a code refuses a slip.
 
 /// Why a code refuses to seal or to mend a slip.
-#[derive(Clone, Copy, PartialEq, Eq, Debug)]
+#[derive(Clone, Copy, Debug)]
 pub enum CodeFault {
     /// The slip holds too few symbols to be worked on.
     Short,

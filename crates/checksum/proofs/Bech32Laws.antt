@@ -9,7 +9,7 @@ use Rattle.algebra.proofs.Orders.{order_ne_zero}
 use Rattle.algebra.proofs.Squaring.{squaring}
 use Rattle.algebra.proofs.Quadratic.{quadratic}
 use Rattle.fields.specs.Binary.{binary_product}
-use Rattle.fields.specs.Every.{every_at}
+use Rattle.algebra.proofs.Tests.{every_at}
 use Rattle.fields.specs.Gf32.{gf32, gf32_numbers}
 use Rattle.fields.specs.Gf1024.{gf1024, gf1024_numbers, lift1024}
 use Rattle.checksum.specs.Bech32.{bech32}

@@ -6,9 +6,9 @@ use Rattle.algebra.specs.Code.{IsLawfulCode, generator_poly}
 use Rattle.algebra.proofs.Orders.{order_ne_zero}
 use Rattle.fields.specs.declared.gf32.Fe32.{Fe32}
 use Rattle.fields.specs.Binary.{binary_product}
-use Rattle.fields.specs.Every.{every_at}
+use Rattle.algebra.proofs.Tests.{every_at}
 use Rattle.fields.specs.Gf32.{gf32, fe, fe_path}
-use Rattle.fields.specs.Cyclic.{t_has_order_31}
+use Rattle.fields.specs.Laws.Gf32.{t_has_order_31}
 use Rattle.checksum.specs.Finish.{finish}
 
 -- the generator polynomial's value at a power of the root, as a number

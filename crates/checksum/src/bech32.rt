@@ -1,5 +1,5 @@
-// The sheet code: the checksum of bech32 strings, by BIP 173. Six check symbols over GF(32), with roots in GF(1024): a bound
-// of 3, rows of up to 89 symbols.
+// The sheet code: the checksum of bech32 strings, by BIP 173 (P. Wuille, G. Maxwell, 2017). Six check symbols over GF(32), with
+// roots in GF(1024): a bound of 3, rows of up to 89 symbols.
 ghost use Rattle.std.specs.Prelude.{◌≡◌, refl};
 ghost use Rattle.algebra.specs.Code.{checks};
 ghost use Rattle.checksum.specs.Bech32.{bech32, sheet_rows};

@@ -43,7 +43,8 @@ pub trait Checksum {
 
     /// The coefficient of a power of x in the generator polynomial: ONE at k, ZERO above it.
     fn generator(power: usize) -> Self::SymbolField
-        ensures { result ≡ coeff Self.SymbolField.field (generator_poly Self.SymbolField.field code) power };
+        ensures { result ≡ coeff Self.SymbolField.field
+            (generator_poly Self.SymbolField.field code) power };
 
     /// The coefficient of a power of x in the residue of a sound row: ZERO from k on.
     fn target_residue(power: usize) -> Self::SymbolField
@@ -52,7 +53,8 @@ pub trait Checksum {
     /// What makes the code lawful. Generic code calls this to have the laws at hand.
     fn laws()
         ensures alphabet { Self.SymbolField.numbers.size ≡ 32 }
-        ensures lawful { IsLawfulCode Self.SymbolField.field Self.CorrectionField.field Self.CorrectionField.lifted code };
+        ensures lawful { IsLawfulCode Self.SymbolField.field
+            Self.CorrectionField.field Self.CorrectionField.lifted code };
 
     ghost checksum_length_is: { CHECKSUM_LENGTH ≡ checks code };
 

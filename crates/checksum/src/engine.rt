@@ -65,7 +65,8 @@ impl<C: Checksum> Engine<C> {
     #[tactic(auto, using(algebra::proofs::Remainder::residue_remainder))]
     pub fn of_row(row: &[C::SymbolField]) -> Self
         ensures residue { result ≡ residue C.SymbolField.field C.code row.now }
-        ensures remainder { IsRemainder C.SymbolField.field C.code.lower (reverse (C.SymbolField.field.𝟙 ∷ row.now)) result }
+        ensures remainder { IsRemainder C.SymbolField.field C.code.lower
+            (reverse (C.SymbolField.field.𝟙 ∷ row.now)) result }
     {
         C::laws();
         let mut engine = Self::new();
@@ -92,7 +93,8 @@ impl<C: Checksum> Engine<C> {
     }
 
     fn input_zeros(&mut self)
-        ensures { self.new ≡ residue_from C.SymbolField.field C.code.lower self.old (replicate (checks C.code) C.SymbolField.field.𝟘) }
+        ensures { self.new ≡ residue_from C.SymbolField.field C.code.lower self.old
+            (replicate (checks C.code) C.SymbolField.field.𝟘) }
     {
         for _ in 0..C::CHECKSUM_LENGTH {
             self.input_fe(C::SymbolField::ZERO);
@@ -134,8 +136,8 @@ impl<C: Checksum> Engine<C> {
     }
 }
 
-/// The k check symbols of a row, in the order of writing, in the first k entries. A type apart from the engine, whose memory is the
-/// same: no more symbols are taken, and the highest power comes first.
+/// The k check symbols of a row, in the order of writing, in the first k entries. Unlike an engine it takes no symbols, and has
+/// the highest power first.
 #[derive(Drop)]
 pub struct CheckSymbols<C: Checksum> {
     symbols: [C::SymbolField; 16],

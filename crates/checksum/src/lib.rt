@@ -1,4 +1,4 @@
-// Codes: what a code is, which rows are sound, how a row is sealed, what is proved of every code, and the codes of the box.
+// Codes: what a code is, which rows are sound, how a row is sealed, what is proved of every code, and two codes.
 #![tactic(auto)]
 
 pub mod bech32;

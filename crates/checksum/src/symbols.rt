@@ -4,7 +4,7 @@ ghost use Rattle.std.specs.Prelude.{◌≡◌, ◌<◌, ◌≤◌, Some, None};
 use crate::checksum::Checksum;
 use fields::Field;
 
-/// The number of a symbol. By `as`: that the number fits is the alphabet's law, which `try_from` would test again.
+/// The number of a symbol. The cast loses nothing, as the alphabet has 32 symbols.
 pub fn number<C: Checksum>(symbol: C::SymbolField) -> u8
     ensures number { result ≡ C.SymbolField.numbers.number symbol }
     ensures below { result < 32 }

@@ -9,7 +9,8 @@ use fields::ExtensionField;
 /// At each root of the generator polynomial, the residue of a row less the target is the value of the row's changes from
 /// any sound row of its length.
 pub fn syndromes_stand<C: Checksum>()
-    ensures { HasSyndromesOfChanges C.SymbolField.field C.CorrectionField.field C.CorrectionField.lifted C.code }
+    ensures { HasSyndromesOfChanges C.SymbolField.field
+        C.CorrectionField.field C.CorrectionField.lifted C.code }
 {
     C::laws();
     C::CorrectionField::lift_laws();
@@ -17,7 +18,8 @@ pub fn syndromes_stand<C: Checksum>()
 
 /// Two different sound rows of one length within the limit differ in at least bound + 1 places.
 pub fn distance_stands<C: Checksum>()
-    ensures { HasDistance C.SymbolField.field C.CorrectionField.field C.CorrectionField.lifted C.code }
+    ensures { HasDistance C.SymbolField.field
+        C.CorrectionField.field C.CorrectionField.lifted C.code }
 {
     C::laws();
     C::CorrectionField::lift_laws();
@@ -25,7 +27,8 @@ pub fn distance_stands<C: Checksum>()
 
 /// Within the limit at most one sound row is so near that twice the errors and the doubted places are within the bound.
 pub fn one_near_stands<C: Checksum>()
-    ensures { HasOneNear C.SymbolField.field C.CorrectionField.field C.CorrectionField.lifted C.code }
+    ensures { HasOneNear C.SymbolField.field
+        C.CorrectionField.field C.CorrectionField.lifted C.code }
 {
     C::laws();
     C::CorrectionField::lift_laws();
@@ -33,7 +36,8 @@ pub fn one_near_stands<C: Checksum>()
 
 /// Where one more place is doubted, no other row than before is near.
 pub fn one_more_doubt_stands<C: Checksum>()
-    ensures { KeepsRowUnderDoubt C.SymbolField.field C.CorrectionField.field C.CorrectionField.lifted C.code }
+    ensures { KeepsRowUnderDoubt C.SymbolField.field
+        C.CorrectionField.field C.CorrectionField.lifted C.code }
 {
     C::laws();
     C::CorrectionField::lift_laws();
@@ -41,7 +45,8 @@ pub fn one_more_doubt_stands<C: Checksum>()
 
 /// Where a row is near, the register's connection list, its roots and Forney's values are that row's errors and changes.
 pub fn mending_stands<C: Checksum>()
-    ensures { MendsNearRows C.SymbolField.field C.CorrectionField.field C.CorrectionField.lifted C.code }
+    ensures { MendsNearRows C.SymbolField.field
+        C.CorrectionField.field C.CorrectionField.lifted C.code }
 {
     C::laws();
     C::CorrectionField::lift_laws();

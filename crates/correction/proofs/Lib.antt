@@ -1,6 +1,6 @@
 pub mod Coefficients
 pub mod Doubted
-pub mod Found
+pub mod SyndromeList
 pub mod Linear
 pub mod Listed
 pub mod Locates

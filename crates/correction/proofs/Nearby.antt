@@ -21,7 +21,7 @@ use Rattle.book.specs.Codes.{IsNear}
 use Rattle.book.specs.Mending.{changes}
 use Rattle.book.proofs.Fitting.{few_changes}
 use Rattle.book.proofs.Numbers.{Below, elements, in_elements, length_elements, row_elements, marks_elements, near_elements}
-use Rattle.correction.proofs.Found.{locator_found, evaluator_found, errata_found}
+use Rattle.correction.proofs.SyndromeList.{locator_found, evaluator_found, errata_found}
 use Rattle.correction.proofs.Listed.{root_list, change_number, Right, doubted_right, roots_right, listed_changes}
 use Rattle.lists.specs.Roots.{roots}
 use Rattle.correction.specs.Steps.Decoded.{located_list, TellsChange, found_positions, IsComplete, Tells}

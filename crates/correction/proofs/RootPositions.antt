@@ -10,7 +10,8 @@ use Rattle.algebra.specs.Code.{Code, IsLawfulCode}
 use Rattle.algebra.specs.Decode.{root_position}
 use Rattle.algebra.specs.Field.{FieldOn, HasOrder, IsEmbedding, pow}
 use Rattle.algebra.specs.Poly.{eval}
-use Rattle.algebra.specs.Rows.{BookOf, IsNearRow, error_positions, found_locator, is_no, IsRoot, positions, wrong_places}
+use Rattle.algebra.specs.Rows.{BookOf, IsNearRow, error_positions, found_locator, IsRoot, positions, wrong_places}
+use Rattle.algebra.proofs.Decided.{is_no}
 use Rattle.algebra.specs.Series.{Mem, here, there}
 use Rattle.algebra.proofs.Changes.{length_wrong}
 use Rattle.algebra.proofs.Chien.{root_is_inverse}

@@ -1,4 +1,5 @@
-// Forney's equation: the change at a position, from the evaluator of the syndromes and the derivative of the locator.
+// Forney's equation (G. D. Forney, 'On decoding BCH codes', 1965): the change at a position, from the evaluator of the
+// syndromes and the derivative of the locator.
 ghost use Rattle.std.specs.Prelude.{◌≡◌, ℕ, ◌<◌, ◌≤◌, length, Some, ◌≢◌};
 ghost use Rattle.algebra.specs.Field.{pow};
 ghost use Rattle.algebra.specs.Poly.{eval};
@@ -42,7 +43,7 @@ impl<E: ExtensionField> Forney<'_, E> {
         quotient(x.mul(value).neg(), slope.mul(powers(x).nth(self.first))).ok()
     }
 
-    // The number of the symbol that the change at a position is, none where it is none.
+    // The change at a position as a symbol's number, or none if it is not a symbol.
     pub(crate) fn change_at(&self, position: usize) -> Option<u8>
         ensures { (y : ℕ) → HasChangeAt self.now position y → result ≡ Some y }
     {

@@ -5,6 +5,7 @@
 pub mod checker;
 pub mod correction;
 pub(crate) mod forney;
+pub mod found;
 pub mod lengths;
 pub(crate) mod listing;
 pub(crate) mod locating;
@@ -15,5 +16,6 @@ pub(crate) mod syndromes;
 
 pub use checker::fits;
 pub use correction::bch_errors;
-pub use mending::{settle, solve};
+pub use found::Found;
+pub use mending::{find, settle, solve};
 pub use pattern::Pattern;

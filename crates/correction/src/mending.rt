@@ -3,12 +3,13 @@ ghost use Rattle.std.specs.Prelude.{◌≡◌, ◌≤◌, ◌++◌, ◌==◌, no
 ghost use Rattle.std.specs.Result.{result_err};
 ghost use Rattle.book.specs.Calls.{Follows, solve, settle, search_fault};
 ghost use Rattle.book.specs.Mending.{nonzero_count};
-ghost use Rattle.correction.specs.Answers.{search_answer, listed_count, ListsPattern, workspace_after};
+ghost use Rattle.correction.specs.Answers.{FindsNear, ListsPattern, listed_count, search_answer, workspace_after};
 ghost use Rattle.correction.specs.MendingSteps.Found.{SearchFinds};
 ghost use Rattle.slip.specs.View.{IsHoldable};
 
 use crate::checker::fits;
 use crate::correction::bch_errors;
+use crate::found::Found;
 use crate::pattern::Pattern;
 use crate::subtracting::mended;
 use book::{CodeFault, Record};
@@ -16,6 +17,27 @@ use checksum::symbols::number;
 use checksum::{Checksum, bound};
 use fields::{ExtensionField, Field};
 use slip::Slip;
+
+/// Finds the row that is near a slip's: the pattern that makes it, and the slip with that row. No record is written: `records`
+/// is how many there is room for.
+pub fn find<C: Checksum>(
+    slip: &Slip,
+    records: usize,
+    work: &mut [C::CorrectionField],
+) -> Result<Found, CodeFault>
+    ensures found { FindsNear C.rows records (length work.old) slip.now result }
+    ensures working { work.new ≡ workspace_after C.CorrectionField.field result work.old }
+{
+    C::laws();
+    let pattern = search::<C>(slip, records, work)?;
+    let nonzero = count_changes(pattern.records(), number::<C>(C::SymbolField::ZERO));
+    let mended = mended::<C>(slip, pattern.records());
+    Ok(Found {
+        pattern,
+        nonzero,
+        mended,
+    })
+}
 
 /// Solve: lists the changes from the near row at the front of the caller's records, and answers how many they are and how
 /// many of them change something, two numbers that callers take apart at once. The slip stays as it is.
@@ -31,7 +53,8 @@ pub fn solve<C: Checksum>(
     ensures working { work.new ≡ workspace_after C.CorrectionField.field result work.old }
 {
     let found = find::<C>(slip, records.len(), work)?;
-    Ok(list::<C>(&found, records))
+    list(found.pattern.records(), records);
+    Ok((found.pattern.records().len(), found.nonzero))
 }
 
 /// Settle: as solve, and the slip then holds the near row, nothing doubted.
@@ -46,15 +69,16 @@ pub fn settle<C: Checksum>(
     ensures past { drop (listed_count result) records.new ≡ drop (listed_count result) records.old }
     ensures working { work.new ≡ workspace_after C.CorrectionField.field result work.old }
 {
-    C::laws();
-    let pattern = find::<C>(slip, records.len(), work)?;
-    *slip = mended::<C>(slip, pattern.records());
-    Ok(list::<C>(&pattern, records))
+    let found = find::<C>(slip, records.len(), work)?;
+    list(found.pattern.records(), records);
+    let answer = (found.pattern.records().len(), found.nonzero);
+    *slip = found.mended;
+    Ok(answer)
 }
 
 // The records that lead to the near row. Where a row is near, its changes are proposed: a proposal that does not fit says
 // that there is none.
-fn find<C: Checksum>(
+fn search<C: Checksum>(
     slip: &Slip,
     records: usize,
     work: &mut [C::CorrectionField],
@@ -95,20 +119,12 @@ fn can_mend<C: Checksum>(slip: &Slip, records: usize, work: usize) -> Result<(),
     Ok(())
 }
 
-// Writes a pattern's records at the front of others, and answers how many they are and how many change something.
-fn list<C: Checksum>(pattern: &Pattern, records: &mut [Record]) -> (usize, usize)
-    requires { length pattern.now ≤ length records.old }
-    ensures many { result.0 ≡ length pattern.now }
-    ensures changed { result.1 ≡ nonzero_count C.rows pattern.now }
-    ensures listed { records.new ≡ pattern.now ++ drop (length pattern.now) records.old }
+// Writes a pattern's records at the front of others.
+fn list(found: &[Record], records: &mut [Record])
+    requires { length found.now ≤ length records.old }
+    ensures { records.new ≡ found.now ++ drop (length found.now) records.old }
 {
-    C::laws();
-    let found = pattern.records();
     records[..found.len()].copy_from_slice(found);
-    (
-        found.len(),
-        count_changes(found, number::<C>(C::SymbolField::ZERO)),
-    )
 }
 
 // How many records change something.

@@ -1,7 +1,7 @@
 -- Logarithms to the base t: the program's tables, and how products and inverses go by them.
 use Rattle.std.proofs.Common.{◌≡◌, ℕ, zero, suc, ◌+◌, ◌-◌, ◌%◌, ◌<◌, eqb, ltb, List, [], ◌∷◌, get_or, refl, arith, eqb→eq, ltb→lt}
 use Rattle.fields.specs.Binary.{binary_product, binary_power}
-use Rattle.fields.specs.Every.{every_at, at₂}
+use Rattle.algebra.proofs.Tests.{every_at, at₂}
 
 -- what the program's tables hold
 abbrev pub logs : List ℕ

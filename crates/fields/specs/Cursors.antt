@@ -1,5 +1,5 @@
 -- What the cursors over powers have yet to answer.
---   ahead F p n  what the cursor p answers after n others
+--   power_ahead F p n      what the cursor p answers after n others
 --   remaining_powers F r   all that the cursor r answers
 use Rattle.std.specs.Prelude.{ℕ, suc, List, Some, None, Option}
 use Rattle.algebra.specs.Field.{FieldOn, pow}

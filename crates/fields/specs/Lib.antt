@@ -3,12 +3,7 @@ pub mod Powers
 pub mod Cursors
 pub mod Monoid
 pub mod Binary
-pub mod Every
-pub mod BinaryLaws
 pub mod Gf32
-pub mod Cyclic
 pub mod Gf1024
-pub mod Irreducible
-pub mod Laws1024
 pub mod Gf32768
-pub mod Laws32768
+pub mod Laws

@@ -1,6 +1,7 @@
 -- What a monoid is, its values joined to themselves, and the two monoids of a field.
 --   IsMonoid neutral op     op may be grouped in any way, and the neutral value changes no other
---   repeated neutral op x n x joined n times
+--   repeat neutral op x n   x joined n times
+--   sum_unit, sum_of, product_unit, product_of   the sums and the products of a field
 use Rattle.std.specs.Prelude.{◌≡◌, ℕ, zero, suc}
 use Rattle.std.proofs.Common.{ap}
 use Rattle.algebra.specs.Field.{FieldOn}
@@ -17,18 +18,15 @@ abbrev pub repeat : {M : Type 0} → M → (M → M → M) → M → ℕ → M
 repeat neutral op x zero = neutral
 repeat neutral op x (suc n) = op x (repeat neutral op x n)
 
-abbrev as_sum : {A : Type 0} → A → Sum A
-as_sum x = record { 0 = x }
-
-abbrev as_product : {A : Type 0} → A → Product A
-as_product x = record { 0 = x }
-
 module _ {A : Type 0} (F : FieldOn A) where
   abbrev pub sum_unit : Sum A
-  sum_unit = as_sum F.𝟘
+  sum_unit = record { 0 = F.𝟘 }
 
   abbrev pub sum_of : Sum A → Sum A → Sum A
-  sum_of x y = as_sum (F.add x.0 y.0)
+  sum_of x y = record { 0 = F.add x.0 y.0 }
+
+  abbrev as_sum : A → Sum A
+  as_sum x = record { 0 = x }
 
   pub sum_laws : IsMonoid sum_unit sum_of
   sum_laws = record {
@@ -38,10 +36,13 @@ module _ {A : Type 0} (F : FieldOn A) where
   }
 
   abbrev pub product_unit : Product A
-  product_unit = as_product F.𝟙
+  product_unit = record { 0 = F.𝟙 }
 
   abbrev pub product_of : Product A → Product A → Product A
-  product_of x y = as_product (F.mul x.0 y.0)
+  product_of x y = record { 0 = F.mul x.0 y.0 }
+
+  abbrev as_product : A → Product A
+  as_product x = record { 0 = x }
 
   pub product_laws : IsMonoid product_unit product_of
   product_laws = record {

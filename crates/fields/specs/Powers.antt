@@ -1,7 +1,7 @@
 -- Quotients and powers, with what is refused.
---   quotient F a b   a times b's inverse, refused for ZERO
---   powi F x n       x to the power n, for any whole number n
---   IsOrderOf F x r   r is x's multiplicative order
+--   quotient F a b    a times b's inverse, refused if b is ZERO
+--   powi F x n        x to the power n, for any whole number n
+--   IsOrderOf F x r   r is x's multiplicative order, refused for ZERO
 use Rattle.std.specs.Prelude.{◌≡◌, ℕ, suc, ◌^◌, ℤ, pos, negsuc, Ok, Err, Result}
 use Rattle.std.proofs.Math.Decide.{ℕ_discrete}
 use Rattle.algebra.specs.Field.{FieldOn, pow, HasOrder}

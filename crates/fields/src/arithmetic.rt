@@ -21,7 +21,7 @@ pub fn quotient<F: Field>(a: F, b: F) -> Result<F, FieldFault>
     Ok(a.mul(b.multiplicative_inverse()?))
 }
 
-/// n times x, by sums alone, whatever twice an element is.
+/// n times x, by sums alone, in any characteristic.
 #[tactic(auto, using(crate::proofs::Monoids::repeated_sum))]
 pub fn multiple<F: Field>(x: F, n: usize) -> F
     ensures { result ≡ multiple F.field x n }
@@ -29,7 +29,7 @@ pub fn multiple<F: Field>(x: F, n: usize) -> F
     repeat(Sum(x), n).0
 }
 
-/// n times x. Twice an element is ZERO, so that only n's last bit counts.
+/// n times x, for any signed n. Twice an element is ZERO, so that only n's last bit counts.
 pub fn muli<F: Field>(x: F, n: i64) -> F
     ensures { result ≡ int_multiple F.field x n }
 {

@@ -19,7 +19,8 @@ impl<F: Field> Powers<F> {
     /// The next power.
     pub fn next(&mut self) -> F
         ensures answer { result ≡ power_ahead F.field self.old 0 }
-        ensures rest { (k : ℕ) → power_ahead F.field self.new k ≡ power_ahead F.field self.old (suc k) }
+        ensures rest { (k : ℕ) → power_ahead F.field self.new k
+            ≡ power_ahead F.field self.old (suc k) }
     {
         let power = self.next;
         self.next = power.mul(self.base);
@@ -36,7 +37,8 @@ impl<F: Field> Powers<F> {
     /// The power after n others, which are skipped.
     pub fn nth(&mut self, n: usize) -> F
         ensures answer { result ≡ power_ahead F.field self.old n }
-        ensures rest { (k : ℕ) → power_ahead F.field self.new k ≡ power_ahead F.field self.old (n + suc k) }
+        ensures rest { (k : ℕ) → power_ahead F.field self.new k
+            ≡ power_ahead F.field self.old (n + suc k) }
     {
         self.skip(n);
         self.next()
@@ -70,7 +72,8 @@ impl<F: Field> PowersRange<F> {
     /// for each of them.
     pub fn nth(&mut self, n: usize) -> Option<F>
         ensures answer { result ≡ item (remaining_powers F.field self.old) n }
-        ensures rest { remaining_powers F.field self.new ≡ drop (n + 1) (remaining_powers F.field self.old) }
+        ensures rest { remaining_powers F.field self.new
+            ≡ drop (n + 1) (remaining_powers F.field self.old) }
     {
         self.after = self.after?.checked_sub(n);
         self.powers.skip(n);

@@ -1,7 +1,7 @@
-// Why a field refuses.
+// The refusals of a field.
 
 /// Why a field refuses.
-#[derive(Clone, Copy, PartialEq, Eq, Debug)]
+#[derive(Clone, Copy, Debug)]
 pub enum FieldFault {
     /// ZERO has no inverse.
     Zero,

@@ -8,8 +8,8 @@ ghost use Rattle.fields.specs.Elements.{inverse, from_number};
 
 use crate::fault::FieldFault;
 
-/// A finite field. Sum and product are methods with names. Clauses know a constant by the ghost member of its name; the
-/// divisors are a function, since a constant that is a slice would have to say where in memory it lies.
+/// A finite field. Each constant has a ghost member of its name, by which clauses know it. The divisors are a function: a
+/// constant slice has a place in memory, which the trait would have to name.
 pub trait Field: Copy + PartialEq {
     // Sum, product, negative and inverse, with the laws of a field.
     ghost field: { FieldOn Self };
@@ -25,8 +25,10 @@ pub trait Field: Copy + PartialEq {
 
     ghost MULTIPLICATIVE_ORDER: { ℕ };
 
+    /// The neutral element of sums.
     const ZERO: Self;
 
+    /// The neutral element of products.
     const ONE: Self;
 
     /// An element whose powers are all elements but ZERO.
@@ -39,15 +41,19 @@ pub trait Field: Copy + PartialEq {
     fn order_factors<'a>() -> &'a [usize]
         ensures { result.now ≡ divisors_to MULTIPLICATIVE_ORDER MULTIPLICATIVE_ORDER };
 
+    /// The sum.
     fn add(self, other: Self) -> Self
         ensures { result ≡ field.add self other };
 
+    /// The product.
     fn mul(self, other: Self) -> Self
         ensures { result ≡ field.mul self other };
 
+    /// The negative: the sum of both is ZERO.
     fn neg(self) -> Self
         ensures { result ≡ field.neg self };
 
+    /// The inverse: the product of both is ONE. Refused for ZERO.
     fn multiplicative_inverse(self) -> Result<Self, FieldFault>
         ensures { result ≡ inverse field self };
 
@@ -69,7 +75,7 @@ pub trait Field: Copy + PartialEq {
 
     ghost cyclic: { IsCyclic field numbers GENERATOR MULTIPLICATIVE_ORDER };
 
-    // The characteristic is 2. Nothing but what is said of multiples rests on this law.
+    // The characteristic is 2. Only the multiples by signed numbers rest on this law.
     ghost characteristic_two: { HasCharacteristicTwo field };
 
     ghost equality: { (x y : Self) (b : Bool) → (b ≡ Self.PartialEq.eq x y) → Decides b (x ≡ y) };

@@ -1,9 +1,10 @@
-// An element of GF(32768): c0 + c1 ζ + c2 ζ² over GF(32), where ζ³ = 1 + ζ.
+// The elements of GF(32768).
 use crate::gf32::Fe32;
 
 pub mod arithmetic;
 
-// A record of its own and not one for every degree: its product and its inverse are formulas of degree 3.
+/// An element of GF(32768): c0 + c1 ζ + c2 ζ² over GF(32), where ζ³ = 1 + ζ.
+// A struct of its own and not one for every degree: the product and the inverse are formulas of degree 3.
 #[derive(Clone, Copy, PartialEq, Eq, Debug)]
 pub struct Fe32768 {
     pub c0: Fe32,

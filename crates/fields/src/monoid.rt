@@ -1,10 +1,11 @@
-// Monoids: values with an operation that may be grouped in any way. The sum and the product of a field are two, and one
-// walk answers the multiples of the one and the powers of the other.
+// Monoids, and a value joined n times. The sums of a field are a monoid, where that is a multiple, and so are its products,
+// where it is a power.
 ghost use Rattle.std.specs.Prelude.{◌≡◌};
 ghost use Rattle.fields.specs.Monoid.{IsMonoid, repeat, sum_unit, sum_of, sum_laws, product_unit, product_of, product_laws};
 
 use crate::field::Field;
 
+/// Values with an operation that may be grouped in any way, and with a value that changes no other.
 pub trait Monoid: Copy {
     // The value that changes no other.
     ghost neutral: { Self };

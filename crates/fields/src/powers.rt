@@ -10,7 +10,7 @@ use crate::fault::FieldFault;
 use crate::field::Field;
 use crate::monoid::{Product, repeat};
 
-// x to the power n: to double among products is to square.
+// x to the power n, by squaring: n times x in the monoid of products.
 #[tactic(auto, using(crate::proofs::Monoids::repeated_product))]
 pub(crate) fn by_squaring<F: Field>(x: F, n: usize) -> F
     ensures { result ≡ pow F.field x n }
@@ -67,7 +67,8 @@ pub fn powers<F: Field>(x: F) -> Powers<F>
 
 /// The powers of x from the first exponent to the last; none if the first is above the last.
 pub fn powers_range<F: Field>(x: F, first: usize, last: usize) -> PowersRange<F>
-    ensures { remaining_powers F.field result ≡ tab (last + 1 - first) (λ k. pow F.field x (first + k)) }
+    ensures { remaining_powers F.field result
+        ≡ tab (last + 1 - first) (λ k. pow F.field x (first + k)) }
 {
     PowersRange {
         powers: Powers {

@@ -3,7 +3,7 @@ use Rattle.std.proofs.Common.{◌≡◌, ℕ, suc, ◌+◌, ◌-◌, ◌<◌, �
 use Rattle.std.specs.List.{find, range_with_len}
 use Rattle.algebra.specs.Field.{FieldOn, pow}
 use Rattle.algebra.specs.Poly.{eval}
-use Rattle.algebra.specs.Rows.{is_no}
+use Rattle.algebra.proofs.Decided.{is_no}
 use Rattle.lists.specs.Roots.{Cursor, is_root, next_root}
 
 -- the numbers from i on, below n

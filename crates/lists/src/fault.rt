@@ -6,11 +6,11 @@ ghost use Rattle.lists.specs.declared.fault.ListFault.TheVariants.{Field as of_f
 use fields::FieldFault;
 
 /// Why a list is refused.
-#[derive(Clone, Copy, PartialEq, Eq, Debug)]
+#[derive(Clone, Copy, Debug)]
 pub enum ListFault {
-    /// A list that was given has no entry.
+    /// A list has no entry.
     Empty,
-    /// A list that was lent is too short for what is to be written.
+    /// A buffer is too short for what is to be written.
     Short,
     /// The field refused.
     Field(FieldFault),
@@ -25,8 +25,8 @@ impl From<FieldFault> for ListFault {
     }
 }
 
-/// How many entries an answer has, unless it is refused: the shortest list given must have an entry, and the list lent
-/// for the answer must have room.
+/// How many entries an answer has. It is refused where the shortest list passed has none, or where the answer's buffer is
+/// too short.
 pub fn admit(given: usize, needed: usize, room: usize) -> Result<usize, ListFault>
     ensures answer { result ≡ admit given needed room }
     ensures holds { IfOk result (λ n. (n ≡ needed) × (n ≤ room) × (0 < given)) }

@@ -40,21 +40,25 @@ fn combined<F: Field, O: Fn(F, F) -> F>(
 
 /// a + b, as long as the longer; it answers how many entries.
 pub fn add<F: Field>(a: &[F], b: &[F], out: &mut [F]) -> Result<usize, ListFault>
-    ensures answer { result ≡ answer_count (min (length a.now) (length b.now)) (poly_add F.field a.now b.now) out.old }
-    ensures answered { out.new ≡ answer_list (min (length a.now) (length b.now)) (poly_add F.field a.now b.now) out.old }
+    ensures answer { result ≡ answer_count (min (length a.now) (length b.now))
+        (poly_add F.field a.now b.now) out.old }
+    ensures answered { out.new ≡ answer_list (min (length a.now) (length b.now))
+        (poly_add F.field a.now b.now) out.old }
 {
     combined(a, b, out, |x, y| x.add(y))
 }
 
 /// a - b, as long as the longer; it answers how many entries.
 pub fn sub<F: Field>(a: &[F], b: &[F], out: &mut [F]) -> Result<usize, ListFault>
-    ensures answer { result ≡ answer_count (min (length a.now) (length b.now)) (poly_sub F.field a.now b.now) out.old }
-    ensures answered { out.new ≡ answer_list (min (length a.now) (length b.now)) (poly_sub F.field a.now b.now) out.old }
+    ensures answer { result ≡ answer_count (min (length a.now) (length b.now))
+        (poly_sub F.field a.now b.now) out.old }
+    ensures answered { out.new ≡ answer_list (min (length a.now) (length b.now))
+        (poly_sub F.field a.now b.now) out.old }
 {
     combined(a, b, out, |x, y| difference(x, y))
 }
 
-/// The powers of x up to the exponent n, n + 1 entries. No list is given.
+/// The powers of x up to the exponent n: n + 1 entries. Only their room is tested, as no list is passed that may be empty.
 pub fn from_powers<F: Field>(x: F, n: usize, out: &mut [F]) -> Result<usize, ListFault>
     ensures answer { result ≡ answer_count 1 (tab (n + 1) (pow F.field x)) out.old }
     ensures answered { out.new ≡ answer_list 1 (tab (n + 1) (pow F.field x)) out.old }
@@ -72,8 +76,10 @@ pub fn from_powers<F: Field>(x: F, n: usize, out: &mut [F]) -> Result<usize, Lis
 
 /// Each entry is multiplied by the other list's entry at its place, by ZERO past that list's end.
 pub fn mul_assign_pointwise<F: Field>(list: &mut [F], other: &[F]) -> Result<usize, ListFault>
-    ensures answer { result ≡ answer_count (min (length list.old) (length other.now)) (pointwise F.field list.old other.now) list.old }
-    ensures answered { list.new ≡ answer_list (min (length list.old) (length other.now)) (pointwise F.field list.old other.now) list.old }
+    ensures answer { result ≡ answer_count (min (length list.old) (length other.now))
+        (pointwise F.field list.old other.now) list.old }
+    ensures answered { list.new ≡ answer_list (min (length list.old) (length other.now))
+        (pointwise F.field list.old other.now) list.old }
 {
     let n = admit(list.len().min(other.len()), list.len(), list.len())?;
     for (i, place) in list.iter_mut().enumerate() {
@@ -88,7 +94,7 @@ pub fn lift<E: ExtensionField>(list: &[E::BaseField], out: &mut [E]) -> Result<u
     ensures answered { out.new ≡ answer_list (length list.now) (map E.lifted list.now) out.old }
 {
     let n = admit(list.len(), list.len(), out.len())?;
-    // By the list's index: of what is written under a `zip` of `iter_mut` and the list, a proof knows nothing.
+    // By index, and not by a `zip`: see docs/DECISIONS.md.
     for (i, place) in out[..n].iter_mut().enumerate() {
         *place = E::lift(list[i]);
     }
@@ -99,7 +105,7 @@ pub fn lift<E: ExtensionField>(list: &[E::BaseField], out: &mut [E]) -> Result<u
 pub fn clear<F: Field>(list: &mut [F])
     ensures { list.new ≡ replicate (length list.old) F.field.𝟘 }
 {
-    // Not `fill`, which asks that an element's `clone` cannot fail: a field does not promise that.
+    // Not `fill`, which needs that an element's `clone` cannot fail: a field does not promise that.
     let zero = F::ZERO;
     list.fill_with(|| zero);
 }

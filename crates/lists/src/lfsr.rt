@@ -1,5 +1,6 @@
-// Shortest linear feedback shift registers, by Massey's six steps. The connection list grows at the front of the answer,
-// and the list before the last growth is at the front of another; a third has the copy while the two change places.
+// Shortest linear feedback shift registers, by the six steps of J. L. Massey, 'Shift-register synthesis and BCH decoding',
+// 1969. The connection list grows at the front of the answer, and the list before the last growth is at the front of
+// another; a third has the copy while the two change places.
 ghost use Rattle.std.specs.Prelude.{◌≡◌, ◌+◌, ◌*◌, ◌<◌, ◌≤◌, ◌++◌, length, take, drop, is_ok};
 ghost use Rattle.algebra.specs.Poly.{coeff};
 ghost use Rattle.algebra.specs.Register.{updated_list, register, IsShortest};
@@ -12,19 +13,19 @@ use crate::products::product_term;
 use fields::Field;
 use fields::arithmetic::difference;
 
-// Takes c times the old list, moved up by x, off the connection list.
+// Subtracts c·z^x times the old list from the connection list.
 fn subtract_shifted<F: Field>(conn: &mut [F], old: &[F], c: F, x: usize)
     requires { length old.now + x ≤ length conn.old }
     ensures { conn.new ≡ updated_list F.field conn.old c x old.now }
 {
-    // No zip with the old list: of a zip over iter_mut a proof does not know what was written.
+    // By index, and not by a `zip`: see docs/DECISIONS.md.
     for (i, entry) in conn[x..x + old.len()].iter_mut().enumerate() {
         *entry = difference(*entry, c.mul(old[i]));
     }
 }
 
-// Step 5: the connection list is corrected and grows, and as it was it becomes the old one. The lists are lent, so that how much of
-// each is in use is a number beside it; a record of them all would be made for this one call.
+// Step 5: the connection list is corrected and grows, and what it was becomes the old list. The lists are buffers, so that
+// the number of entries in use stands beside each.
 fn grow<F: Field>(
     conn: &mut [F],
     old: &mut [F],
@@ -39,7 +40,8 @@ fn grow<F: Field>(
     requires older { old_len ≤ length old.old }
     requires kept { len ≤ length old.old }
     requires room { len ≤ length spare.old }
-    ensures list { conn.new ≡ updated_list F.field (take len conn.old) c x (take old_len old.old) ++ drop (old_len + x) conn.old }
+    ensures list { conn.new ≡ updated_list F.field (take len conn.old) c x (take old_len old.old)
+        ++ drop (old_len + x) conn.old }
     ensures old { take len old.new ≡ take len conn.old }
 {
     spare[..len].copy_from_slice(&conn[..len]);

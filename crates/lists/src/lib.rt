@@ -1,4 +1,4 @@
-// Lists of field elements, in slices that the caller lends: entry by entry, as the coefficients of polynomials, lowest power
+// Lists of field elements, in slices that the caller passes in: entry by entry, as the coefficients of polynomials, lowest power
 // first, and as the terms of linear feedback shift registers.
 #![tactic(auto)]
 

@@ -43,10 +43,11 @@ pub fn leading_term<F: Field>(list: &[F]) -> Result<F, ListFault>
     list.get(top_power(list)).copied().ok_or(ListFault::Empty)
 }
 
-// The value at x, by Horner, of the list whose entries are those of `list` as they are read; ZERO for the empty list.
+// The value at x, by Horner's rule, of the list that `read` makes of each entry; ZERO for the empty list.
 fn horner<T: Copy, F: Field, R: Fn(T) -> F>(list: &[T], x: F, read: R) -> F
     requires { R.IsAlwaysCallable read }
-    ensures { (entry : T → F) → ((y : T) (r : F) → R.post read y r → r ≡ entry y) → result ≡ eval F.field (map entry list.now) x }
+    ensures { (entry : T → F) → ((y : T) (r : F) → R.post read y r → r ≡ entry y) →
+        result ≡ eval F.field (map entry list.now) x }
 {
     list.iter()
         .rev()
@@ -78,11 +79,13 @@ pub fn evaluate_lifted<E: ExtensionField>(list: &[E::BaseField], x: E) -> Result
 
 /// The formal derivative: as many entries as the degree; it answers how many.
 pub fn formal_derivative<F: Field>(list: &[F], out: &mut [F]) -> Result<usize, ListFault>
-    ensures answer { result ≡ answer_count (length list.now) (spec.formal_derivative F.field list.now) out.old }
-    ensures answered { out.new ≡ answer_list (length list.now) (spec.formal_derivative F.field list.now) out.old }
+    ensures answer { result ≡ answer_count (length list.now)
+        (spec.formal_derivative F.field list.now) out.old }
+    ensures answered { out.new ≡ answer_list (length list.now)
+        (spec.formal_derivative F.field list.now) out.old }
 {
     let n = admit(list.len(), top_power(list), out.len())?;
-    // No zip with the coefficients: of a zip over iter_mut a proof does not know what was written.
+    // By index, and not by a `zip`: see docs/DECISIONS.md.
     for (i, entry) in out[..n].iter_mut().enumerate() {
         *entry = multiple(list[i + 1], i + 1);
     }

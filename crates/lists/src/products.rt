@@ -29,7 +29,8 @@ pub fn product_term<F: Field>(p: &[F], q: &[F], n: usize) -> F
 pub(crate) fn series_product<F: Field>(p: &[F], q: &[F], from: usize, n: usize, out: &mut [F])
     requires room { n ≤ length out.old }
     requires terms { from + n < 2 ^ 64 }
-    ensures { out.new ≡ tab n (λ j. term_of F.field p.now (coeff F.field q.now) (from + j)) ++ drop n out.old }
+    ensures { out.new ≡ tab n (λ j. term_of F.field p.now (coeff F.field q.now) (from + j))
+        ++ drop n out.old }
 {
     for (j, entry) in out[..n].iter_mut().enumerate() {
         *entry = product_term(p, q, from + j);
@@ -38,8 +39,10 @@ pub(crate) fn series_product<F: Field>(p: &[F], q: &[F], from: usize, n: usize, 
 
 /// The product of a and b from power 0 to the sum of their degrees plus 1, cut at d; it answers how many entries.
 pub fn mul_mod_x_d<F: Field>(a: &[F], b: &[F], d: usize, out: &mut [F]) -> Result<usize, ListFault>
-    ensures answer { result ≡ answer_count (min (length a.now) (length b.now)) (spec.mul_mod_x_d F.field a.now b.now d) out.old }
-    ensures answered { out.new ≡ answer_list (min (length a.now) (length b.now)) (spec.mul_mod_x_d F.field a.now b.now d) out.old }
+    ensures answer { result ≡ answer_count (min (length a.now) (length b.now))
+        (spec.mul_mod_x_d F.field a.now b.now d) out.old }
+    ensures answered { out.new ≡ answer_list (min (length a.now) (length b.now))
+        (spec.mul_mod_x_d F.field a.now b.now d) out.old }
 {
     let uncut = top_power(a).saturating_add(top_power(b)).saturating_add(2);
     let n = admit(a.len().min(b.len()), d.min(uncut), out.len())?;
@@ -50,8 +53,10 @@ pub fn mul_mod_x_d<F: Field>(a: &[F], b: &[F], d: usize, out: &mut [F]) -> Resul
 /// The terms of a times s that all coefficients of a reach, or one ZERO where s is too short to have any; it answers how
 /// many entries.
 pub fn convolution<F: Field>(a: &[F], s: &[F], out: &mut [F]) -> Result<usize, ListFault>
-    ensures answer { result ≡ answer_count (length a.now) (spec.convolution F.field a.now s.now) out.old }
-    ensures answered { out.new ≡ answer_list (length a.now) (spec.convolution F.field a.now s.now) out.old }
+    ensures answer { result ≡ answer_count (length a.now)
+        (spec.convolution F.field a.now s.now) out.old }
+    ensures answered { out.new ≡ answer_list (length a.now)
+        (spec.convolution F.field a.now s.now) out.old }
 {
     let power = top_power(a);
     let terms = s.len().saturating_sub(power);

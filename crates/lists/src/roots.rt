@@ -49,7 +49,8 @@ pub fn find_nonzero_distinct_roots<F: Field>(base: F) -> Result<Roots<F>, ListFa
 impl<F: Field> Roots<F> {
     /// The next index at which the list is ZERO, none past the last.
     pub fn next(&mut self, list: &[F]) -> Result<Option<usize>, ListFault>
-        ensures answer { result ≡ unless_empty (length list.now) (next_root F.field list.now self.old) }
+        ensures answer { result ≡ unless_empty (length list.now)
+            (next_root F.field list.now self.old) }
         ensures rest { self.new ≡ cursor_after self.old result }
     {
         not_empty(list)?;

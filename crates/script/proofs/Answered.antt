@@ -1,12 +1,12 @@
 -- What a slip's own calls answer is what follows.
 --   wrote, blanked, doubted, wiped   from the equations of each call
 --   sealed                           from those of a seal, by a code whose seals seal
-use Rattle.std.proofs.Common.{◌≡◌, ℕ, ◌+◌, Bool, true, false, cond, eqb, ltb, ◌++◌, map, length, Ok, Err, Result, sym, refl, ap, ◌∙◌, subst}
+use Rattle.std.proofs.Common.{◌≡◌, ℕ, ◌+◌, Bool, true, false, cond, eqb, ltb, List, ◌++◌, map, length, Ok, Err, Result, sym, refl, ap, ◌∙◌, subst}
 use Rattle.algebra.specs.Code.{Code, checks}
 use Rattle.algebra.specs.Field.{FieldOn, Enumeration}
 use Rattle.book.specs.Book as book
 use Rattle.book.specs.Book.{Book, undoubted_place, row, fresh_book, answer_of, book_after}
-use Rattle.book.specs.Calls.{BookCall, BookAnswer, Follows, plain_answer, done, write, blank, doubt, wipe, seal, writes, blanks, doubting, wipes, unsealed, seals}
+use Rattle.book.specs.Calls.{BookCall, BookAnswer, Follows, plain_answer, done, listed, solve, settle, solves, settles, write, blank, doubt, wipe, seal, writes, blanks, doubting, wipes, unsealed, seals}
 use Rattle.algebra.specs.NumericCode.{NumericCode, numeric_code}
 use Rattle.book.specs.Codes.{IsSeal}
 use Rattle.book.specs.declared.call_fault.CallFault.{CallFault}
@@ -14,6 +14,8 @@ use Rattle.book.specs.declared.call_fault.CallFault.TheVariants.{Slip as of_slip
 use Rattle.book.specs.declared.code_fault.CodeFault.{CodeFault}
 use Rattle.book.specs.declared.code_fault.CodeFault.TheVariants.{Short, Long}
 use Rattle.book.specs.declared.slip_fault.SlipFault.{SlipFault}
+use Rattle.book.specs.declared.record.Record.{Record}
+use Rattle.correction.specs.Answers.{IsFound}
 use Rattle.slip.specs.Sealing.{check_symbols, sealed_book}
 
 -- the answer without the book says as much
@@ -59,3 +61,11 @@ module _ {S E : Type 0} (N : Enumeration S) (s : FieldOn S) (C : Code S E) (b : 
   sealed codes is r next good p q =
       subst (λ (k : NumericCode). Follows b (seal k) (plain_answer of_code r) next) (sym is)
       (sealed_of r next (subst (λ (k : NumericCode). IsSeal k (row b) (check_symbols N s C (row b))) is good) p q)
+
+-- what is found is what a solve lists, and what a settle puts in place
+module _ {C : NumericCode} {r w : ℕ} {b : Book} {cs : List Record} {n : ℕ} {next : Book} where
+  pub solve_gives : IsFound C r w b cs n next → Follows b (solve C r w) (listed cs (length cs) n) b
+  solve_gives f = solves f.gives
+
+  pub settle_gives : IsFound C r w b cs n next → Follows b (settle C r w) (listed cs (length cs) n) next
+  settle_gives f = follows_by refl f.settled (settles f.gives)

@@ -4,17 +4,18 @@
 --   calls_on       the calls on one slip, with the answers that they got
 --   LeadsEachSlip   for each slip, its calls lead from the book that it held to the book that it holds
 --   LeadsEachFreshSlip   the same of fresh slips
---   IsDecided      the book and the call decide the answer and the book after
 --   LeavesReplies   where nothing was asked, a reply is as it was
---   IsFew          a list of at most sixteen records
+--   workspace_left, workspace_after_call   the workspace after a search, and after any call
 use Rattle.std.specs.List.{AllByRecursion}
 use Rattle.std.specs.Prelude.{◌≡◌, ℕ, zero, suc, ◌<◌, ◌≤◌, cond, List, [], ◌∷◌, length, Ok, Err, Result, ◌==◌, slice_index_or}
 use Rattle.book.specs.Book.{Book, fresh_book}
-use Rattle.book.specs.Calls.{BookCall, Follows, write, blank, doubt, wipe, seal, solve, settle, done, refused, listed, BookAnswer}
+use Rattle.book.specs.Calls.{BookCall, write, blank, doubt, wipe, seal, solve, settle, done, refused, listed, BookAnswer}
 use Rattle.algebra.specs.NumericCode.{NumericCode}
 use Rattle.book.specs.Story.{Leads, IsStory}
 use Rattle.book.specs.declared.code_fault.CodeFault.{CodeFault}
+use Rattle.book.specs.declared.code_fault.CodeFault.TheVariants.{Short, Long, Records, Working, Doubts, Unfit}
 use Rattle.book.specs.declared.call_fault.CallFault.{CallFault}
+use Rattle.book.specs.declared.call_fault.CallFault.TheVariants.{Slip as of_slip, Code as of_code}
 use Rattle.script.specs.declared.script.Answer.{Answer}
 use Rattle.script.specs.declared.script.Answer.TheVariants.{Done, Listed}
 use Rattle.script.specs.declared.script.Call.{Call}
@@ -50,10 +51,6 @@ LeadsEachSlip codes before ts rs after = (i : ℕ) → i < length before → Lea
 abbrev pub LeadsEachFreshSlip : {K : Type 0} → (K → NumericCode) → List Book → List (Step K) → List Reply → List Book → Type 0
 LeadsEachFreshSlip codes before ts rs after = AllByRecursion (λ b. b ≡ fresh_book) before → (i : ℕ) → i < length before → IsStory (calls_on codes i ts rs) (slice_index_or after i fresh_book)
 
-abbrev pub IsDecided : {K : Type 0} → (K → NumericCode) → Type 0
-IsDecided {K} codes = (b : Book) (call : Call K) (a a' : BookAnswer) (next next' : Book)
-    → Follows b (book_call codes call) a next → Follows b (book_call codes call) a' next' → (a ≡ a') × (next ≡ next')
-
 -- nothing was asked at place j: it lies past the steps, or its step names none of the m slips
 abbrev pub IsUncalled : {K : Type 0} → ℕ → List (Step K) → ℕ → Type 0
 IsUncalled m [] j = Unit {0}
@@ -63,6 +60,30 @@ IsUncalled m (t ∷ ts) (suc j) = IsUncalled m ts j
 abbrev pub LeavesReplies : {K : Type 0} → ℕ → List (Step K) → List Reply → List Reply → Type 0
 LeavesReplies m ts was is = (j : ℕ) (default : Reply) → IsUncalled m ts j → slice_index_or is j default ≡ slice_index_or was j default
 
-abbrev pub IsFew : Result (ℕ × ℕ) CodeFault → Type 0
-IsFew (Ok n) = n.0 ≤ 16
-IsFew (Err fault) = Unit {0}
+-- a workspace after a search: cleared, unless a reason to refuse came before it
+abbrev pub workspace_after_fault : {W : Type 0} → (W → W) → CodeFault → W → W
+workspace_after_fault cleared Short space = space
+workspace_after_fault cleared Long space = space
+workspace_after_fault cleared Records space = space
+workspace_after_fault cleared Working space = space
+workspace_after_fault cleared Doubts space = space
+workspace_after_fault cleared Unfit space = cleared space
+
+abbrev pub workspace_left : {X W : Type 0} → (W → W) → Result X CodeFault → W → W
+workspace_left cleared (Ok found) space = cleared space
+workspace_left cleared (Err fault) space = workspace_after_fault cleared fault space
+
+abbrev pub workspace_after_reply : {W : Type 0} → (W → W) → Reply → W → W
+workspace_after_reply cleared (Ok answer) space = cleared space
+workspace_after_reply cleared (Err (of_slip fault)) space = space
+workspace_after_reply cleared (Err (of_code fault)) space = workspace_after_fault cleared fault space
+
+-- and after any call: only a search works in it
+abbrev pub workspace_after_call : {K W : Type 0} → (K → ℕ → W → W) → Call K → Reply → W → W
+workspace_after_call cleared (Write v) reply space = space
+workspace_after_call cleared Blank reply space = space
+workspace_after_call cleared (Doubt place) reply space = space
+workspace_after_call cleared Wipe reply space = space
+workspace_after_call cleared (Seal k) reply space = space
+workspace_after_call cleared (Solve k lent) reply space = workspace_after_reply (cleared k lent.working) reply space
+workspace_after_call cleared (Settle k lent) reply space = workspace_after_reply (cleared k lent.working) reply space

@@ -1,16 +1,18 @@
 // Sets of codes. A script names the code of each call by a value, so that one script can use several codes; a set says
 // what its values name.
-ghost use Rattle.std.specs.Prelude.{◌≡◌, length, replicate};
-ghost use Rattle.book.specs.Calls.{Follows, plain_answer, seal, solve, settle};
+ghost use Rattle.std.specs.Prelude.{◌≡◌, ℕ, ◌++◌, drop, min, replicate, take};
+ghost use Rattle.book.specs.Calls.{Follows, plain_answer, seal};
 ghost use Rattle.book.specs.declared.call_fault.CallFault.TheVariants.{Code as of_code};
 ghost use Rattle.algebra.specs.NumericCode.{NumericCode};
 ghost use Rattle.book.specs.Codes.{IsLawful};
-ghost use Rattle.correction.specs.Answers.{search_answer};
+ghost use Rattle.correction.specs.Answers.{FindsNear, zeros};
+ghost use Rattle.script.specs.Script.{workspace_left};
 ghost use Rattle.either.specs.Either.{either};
 
-use book::{CodeFault, Record};
+use crate::script::Lent;
+use book::CodeFault;
 use checksum::Checksum;
-use correction::{settle, solve};
+use correction::{Found, find};
 use either::{Either, Left, Right};
 use fields::{ExtensionField, Field};
 use slip::Slip;
@@ -41,9 +43,16 @@ pub trait CodeSet: Copy {
     // A workspace is clear where each of its working lists holds ZEROs alone.
     ghost clear: { Self.Workspace → Type 0 };
 
+    // A workspace after a search by a code in so many elements of its working list: they are ZERO.
+    ghost cleared: { Self → ℕ → Self.Workspace → Self.Workspace };
+
     /// Every code of the set is lawful. Generic code calls this to have the laws at hand.
     fn laws()
         ensures { (k : Self) → IsLawful (codes k) };
+
+    /// A search leaves a clear workspace clear.
+    fn stays_clear()
+        ensures { (k : Self) (w : ℕ) (space : Self.Workspace) → clear space → clear (cleared k w space) };
 
     /// A clear workspace.
     fn workspace() -> Self::Workspace
@@ -53,27 +62,15 @@ pub trait CodeSet: Copy {
     fn seal(self, slip: &mut Slip) -> Result<(), CodeFault>
         ensures { Follows slip.old (seal (codes self)) (plain_answer of_code result) slip.new };
 
-    /// Lists how the row of a slip becomes the row near it, by the code, w elements of the workspace being lent to work in.
-    fn solve(
+    /// Finds the row near the row of a slip, by the code, with as much lent as `lent` says.
+    fn find(
         self,
         slip: &Slip,
-        records: &mut [Record],
-        w: usize,
+        lent: Lent,
         workspace: &mut Self::Workspace,
-    ) -> Result<(usize, usize), CodeFault>
-        ensures { Follows slip.now (solve (codes self) (length records.old) w)
-            (search_answer result records.new) slip.now };
-
-    /// The same, and the slip then holds that row, nothing doubted.
-    fn settle(
-        self,
-        slip: &mut Slip,
-        records: &mut [Record],
-        w: usize,
-        workspace: &mut Self::Workspace,
-    ) -> Result<(usize, usize), CodeFault>
-        ensures { Follows slip.old (settle (codes self) (length records.old) w)
-            (search_answer result records.new) slip.new };
+    ) -> Result<Found, CodeFault>
+        ensures found { FindsNear (codes self) lent.records lent.working slip.now result }
+        ensures working { workspace.new ≡ workspace_left (cleared self lent.working) result workspace.old };
 }
 
 impl<C: Checksum> CodeSet for Single<C> {
@@ -83,10 +80,16 @@ impl<C: Checksum> CodeSet for Single<C> {
 
     ghost clear = { λ d. d.work ≡ replicate 216 C.CorrectionField.field.𝟘 };
 
+    ghost cleared = { λ _ w d. record {
+        work = zeros C.CorrectionField.field (take (min w 216) d.work) ++ drop (min w 216) d.work
+    } };
+
     fn laws() {
         C::laws();
         C::CorrectionField::lift_laws();
     }
+
+    fn stays_clear() {}
 
     fn workspace() -> Workspace<C::CorrectionField> {
         C::CorrectionField::small();
@@ -102,26 +105,14 @@ impl<C: Checksum> CodeSet for Single<C> {
     }
 
     // What is lent past the workspace's end makes no difference: no code asks for it.
-    fn solve(
+    fn find(
         self,
         slip: &Slip,
-        records: &mut [Record],
-        w: usize,
+        lent: Lent,
         workspace: &mut Workspace<C::CorrectionField>,
-    ) -> Result<(usize, usize), CodeFault> {
+    ) -> Result<Found, CodeFault> {
         C::laws();
-        solve::<C>(slip, records, &mut workspace.work[..w.min(216)])
-    }
-
-    fn settle(
-        self,
-        slip: &mut Slip,
-        records: &mut [Record],
-        w: usize,
-        workspace: &mut Workspace<C::CorrectionField>,
-    ) -> Result<(usize, usize), CodeFault> {
-        C::laws();
-        settle::<C>(slip, records, &mut workspace.work[..w.min(216)])
+        find::<C>(slip, lent.records, &mut workspace.work[..lent.working.min(216)])
     }
 }
 
@@ -133,9 +124,16 @@ impl<A: CodeSet, B: CodeSet> CodeSet for Either<A, B> {
 
     ghost clear = { λ d. A.clear d.0 × B.clear d.1 };
 
+    ghost cleared = { either (λ a w d. (A.cleared a w d.0, d.1)) (λ b w d. (d.0, B.cleared b w d.1)) };
+
     fn laws() {
         A::laws();
         B::laws();
+    }
+
+    fn stays_clear() {
+        A::stays_clear();
+        B::stays_clear();
     }
 
     fn workspace() -> (A::Workspace, B::Workspace) {
@@ -149,29 +147,15 @@ impl<A: CodeSet, B: CodeSet> CodeSet for Either<A, B> {
         }
     }
 
-    fn solve(
+    fn find(
         self,
         slip: &Slip,
-        records: &mut [Record],
-        w: usize,
+        lent: Lent,
         workspace: &mut (A::Workspace, B::Workspace),
-    ) -> Result<(usize, usize), CodeFault> {
+    ) -> Result<Found, CodeFault> {
         match self {
-            Left(a) => a.solve(slip, records, w, &mut workspace.0),
-            Right(b) => b.solve(slip, records, w, &mut workspace.1),
-        }
-    }
-
-    fn settle(
-        self,
-        slip: &mut Slip,
-        records: &mut [Record],
-        w: usize,
-        workspace: &mut (A::Workspace, B::Workspace),
-    ) -> Result<(usize, usize), CodeFault> {
-        match self {
-            Left(a) => a.settle(slip, records, w, &mut workspace.0),
-            Right(b) => b.settle(slip, records, w, &mut workspace.1),
+            Left(a) => a.find(slip, lent, &mut workspace.0),
+            Right(b) => b.find(slip, lent, &mut workspace.1),
         }
     }
 }

@@ -1,7 +1,7 @@
 -- What a typed line says, and that it says nothing else.
 use Rattle.std.proofs.Common.{◌≡◌, ℕ, true, List, map, Some, None, Ok, Err, Option, Result, sym, refl, ap, ◌∙◌, subst, ap₂}
 use Rattle.book.specs.Book.{Book, row, undoubted_place}
-use Rattle.book.specs.Calls.{BookAnswer, Follows, SearchGives, done, listed, listing_of, refused, settle, settled_book, settles, barred, none_near, one_near}
+use Rattle.book.specs.Calls.{BookAnswer, Follows, IsDecided, SearchGives, done, listed, listing_of, refused, settle, settled_book, settles, barred, none_near, one_near}
 use Rattle.algebra.specs.NumericCode.{NumericCode}
 use Rattle.book.specs.Mending.{changes, nonzero_count}
 use Rattle.book.specs.declared.call_fault.CallFault.{CallFault}
@@ -13,7 +13,7 @@ use Rattle.book.proofs.Rows.{row_sure}
 use Rattle.sheet.specs.ReadingOff.{read_off}
 use Rattle.sheet.specs.Taking.{take_line}
 use Rattle.sheet.specs.declared.fault.LineFault.{LineFault}
-use Rattle.sheet.specs.Shown.{HasOneAnswer, OnlySays, Says, not_taken, not_mended, not_read, finishes}
+use Rattle.sheet.specs.Shown.{OnlySays, Says, not_taken, not_mended, not_read, finishes}
 use Rattle.sheet.specs.declared.reading.Reading.{Reading}
 use Rattle.sheet.specs.declared.sheet_fault.Cause.{Cause}
 use Rattle.sheet.specs.declared.sheet_fault.Cause.TheVariants as causes
@@ -85,7 +85,7 @@ data Reads (C : NumericCode) (b : Book) : Result Reading Cause → Type 0 where
 of_same : {C : NumericCode} {b d : Book} {outcome : Result Reading Cause} → b ≡ d → Reads C b outcome → Reads C d outcome
 of_same {C} {b} {d} {outcome} e reads = subst (λ x. Reads C x outcome) e reads
 
-module _ (C : NumericCode) (decided : HasOneAnswer C) (line : List ℕ) (b : Book) (taken : take_line true line ≡ Ok b) where
+module _ (C : NumericCode) (decided : IsDecided (settle C 16 216)) (line : List ℕ) (b : Book) (taken : take_line true line ≡ Ok b) where
   reads : (outcome : Result Reading Cause) → Says C line outcome → Reads C b outcome
   reads _ (not_taken f) = absurd (taken_refused taken f)
   reads _ (not_mended f m) = of_same (same_ok f taken) (barely m)

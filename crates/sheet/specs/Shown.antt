@@ -10,7 +10,7 @@
 use Rattle.std.specs.Prelude.{◌≡◌, ℕ, ◌+◌, ◌*◌, ◌<◌, true, List, [], length, take, drop, Some, None, Ok, Err, Result, slice_index_or}
 use Rattle.checksum.specs.Finish as codes
 use Rattle.book.specs.Book.{Book}
-use Rattle.book.specs.Calls.{BookAnswer, Follows, SearchGives, listing_of, refused, settle}
+use Rattle.book.specs.Calls.{SearchGives, listing_of, refused}
 use Rattle.algebra.specs.NumericCode.{NumericCode}
 use Rattle.book.specs.Mending.{changes, nonzero_count}
 use Rattle.book.specs.declared.call_fault.CallFault.TheVariants as calls
@@ -50,10 +50,6 @@ abbrev pub report_of : ℕ → Result Reading SheetFault → Report
 report_of number (Ok r) =
     record { line = number; refusal = 0; changes = r.changes; sail = r.sail; seconds = whole_seconds r.tenths }
 report_of number (Err fault) = record { line = fault.line; refusal = (sheet_refusal fault).number; changes = 0; sail = 0; seconds = 0 }
-
--- a settle has one answer, and leaves one book
-abbrev pub HasOneAnswer : NumericCode → Type 0
-HasOneAnswer C = (b : Book) (a a' : BookAnswer) (d d' : Book) → Follows b (settle C 16 216) a d → Follows b (settle C 16 216) a' d' → (a ≡ a') × (d ≡ d')
 
 pub record OnlySays (C : NumericCode) (line : List ℕ) (outcome : Result Reading Cause) : Type 0 where
   pub says : Says C line outcome

@@ -3,7 +3,7 @@
 use book::SlipFault;
 
 /// Why a line is refused. A place counts the line's bytes, from 0.
-#[derive(Clone, Copy, PartialEq, Eq, Debug)]
+#[derive(Clone, Copy, Debug)]
 pub enum LineFault {
     /// The slip refuses what stands at this place.
     OnSlip(SlipFault, usize),

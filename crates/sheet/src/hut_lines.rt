@@ -1,10 +1,10 @@
 // A typed line, and its output line.
 ghost use Rattle.std.specs.Prelude.{◌≡◌, IfErr, IfOk, Ok, Result};
-ghost use Rattle.book.specs.Calls.{Follows, refused, settle};
+ghost use Rattle.book.specs.Calls.{Follows, IsDecided, refused, settle};
 ghost use Rattle.book.specs.declared.call_fault.CallFault.TheVariants.{Code as by_code};
 ghost use Rattle.script.specs.Script.{book_answer};
 ghost use Rattle.script.specs.declared.script.Answer.TheVariants.{Listed};
-ghost use Rattle.sheet.specs.Shown.{HasOneAnswer, OnlySays, ShowsLine, finish_numeric, outcome_at, report_of};
+ghost use Rattle.sheet.specs.Shown.{OnlySays, ShowsLine, finish_numeric, outcome_at, report_of};
 ghost use Rattle.sheet.specs.declared.reading.Reading.{Reading};
 ghost use Rattle.sheet.specs.declared.sheet_fault.Cause.{Cause};
 
@@ -16,11 +16,10 @@ use crate::sheet_fault::{Cause, SheetFault};
 use crate::taking::take_line;
 use book::{CallFault, CodeFault};
 use checksum::Finish;
-use script::run::run;
-use script::{Answer, Call, CodeSet, Lent, Listing, Reply, Single, Step};
+use script::call::call;
+use script::{Answer, Call, CodeSet, Lent, Listing, Reply, Single};
 use slip::Slip;
 use std::marker::PhantomData;
-use std::slice;
 
 // What a settle is lent. No code asks for more.
 const LENT: Lent = Lent {
@@ -93,7 +92,7 @@ fn mend(slip: &mut Slip) -> Result<Listing, CodeFault>
         Follows slip.old (settle finish_numeric 16 216) (book_answer (Ok (Listed listing))) slip.new) }
     ensures refused { IfErr result (λ fault.
         Follows slip.old (settle finish_numeric 16 216) (refused (by_code fault)) slip.new) }
-    ensures decided { HasOneAnswer finish_numeric }
+    ensures decided { IsDecided (settle finish_numeric 16 216) }
 {
     match settle(slip) {
         Ok(Answer::Listed(listing)) => Ok(listing),
@@ -104,22 +103,15 @@ fn mend(slip: &mut Slip) -> Result<Listing, CodeFault>
     }
 }
 
-// A script of one step, on the only slip.
+// The call. A workspace is made for it: every line is finished by itself.
 fn settle(slip: &mut Slip) -> Reply
     ensures follows { Follows slip.old (settle finish_numeric 16 216) (book_answer result) slip.new }
-    ensures decided { HasOneAnswer finish_numeric }
+    ensures decided { IsDecided (settle finish_numeric 16 216) }
 {
     let code = Single::<Finish> { code: PhantomData };
-    let steps = [Step {
-        slip: 0,
-        call: Call::Settle(code, LENT),
-    }];
-    let mut replies = [Ok(Answer::Done)];
-    run(
-        slice::from_mut(slip),
-        &steps,
-        &mut replies,
+    call(
+        slip,
+        Call::Settle(code, LENT),
         &mut Single::<Finish>::workspace(),
-    );
-    replies[0]
+    )
 }

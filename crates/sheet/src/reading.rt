@@ -1,7 +1,7 @@
 // What a mended line says.
 
 /// A finish as a typed line says it once it is mended.
-#[derive(Clone, Copy, PartialEq, Eq, Debug)]
+#[derive(Clone, Copy, Debug)]
 pub struct Reading {
     /// How many symbols were changed.
     pub changes: usize,

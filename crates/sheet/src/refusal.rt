@@ -11,7 +11,7 @@ use fields::FieldFault;
 use lists::ListFault;
 
 /// The part of the box that refuses.
-#[derive(Clone, Copy, PartialEq, Eq, Debug)]
+#[derive(Clone, Copy, Debug)]
 pub enum Layer {
     Field,
     List,
@@ -22,7 +22,7 @@ pub enum Layer {
 }
 
 /// What is written of a refusal: why, as a number; which part of the box refuses; and where.
-#[derive(Clone, Copy, PartialEq, Eq, Debug)]
+#[derive(Clone, Copy, Debug)]
 pub struct Refusal {
     pub number: u8,
     pub layer: Layer,

@@ -6,7 +6,7 @@ use crate::fault::LineFault;
 use book::CodeFault;
 
 /// What refuses a line of a sheet: reading it, or the code that its row is mended by.
-#[derive(Clone, Copy, PartialEq, Eq, Debug)]
+#[derive(Clone, Copy, Debug)]
 pub enum Cause {
     Line(LineFault),
     Code(CodeFault),
@@ -31,7 +31,7 @@ impl From<CodeFault> for Cause {
 }
 
 /// Why a sheet refuses one of its lines: the cause, whole, and the line's number beside it.
-#[derive(Clone, Copy, PartialEq, Eq, Debug)]
+#[derive(Clone, Copy, Debug)]
 pub struct SheetFault {
     pub line: usize,
     pub cause: Cause,

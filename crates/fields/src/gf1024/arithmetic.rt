@@ -1,7 +1,7 @@
 // GF(1024) is a field above GF(32).
 ghost use Rattle.std.specs.Prelude.{refl};
 ghost use Rattle.fields.specs.Gf1024.{gf1024, gf1024_numbers, gf1024_generator, lift1024, fe1024_decides};
-ghost use Rattle.fields.specs.Laws1024.{gf1024_cyclic, gf1024_characteristic_two};
+ghost use Rattle.fields.specs.Laws.Gf1024.{gf1024_cyclic, gf1024_characteristic_two};
 ghost use Rattle.std.proofs.lemmas.Bool.Decides.{Decides-at};
 
 use super::Fe1024;
@@ -56,7 +56,7 @@ impl Field for Fe1024 {
         &ORDER_FACTORS
     }
 
-    #[tactic(auto, unfolding(crate::specs::Gf1024::gf1024, algebra::proofs::Carried::carried, algebra::proofs::Quadratic::quadratic))]
+    #[tactic(auto, unfolding(crate::specs::Gf1024::gf1024))]
     fn add(self, other: Fe1024) -> Fe1024 {
         Fe1024 {
             c0: self.c0.add(other.c0),
@@ -73,7 +73,7 @@ impl Field for Fe1024 {
         }
     }
 
-    #[tactic(auto, unfolding(crate::specs::Gf1024::gf1024, algebra::proofs::Carried::carried, algebra::proofs::Quadratic::quadratic))]
+    #[tactic(auto, unfolding(crate::specs::Gf1024::gf1024))]
     fn neg(self) -> Fe1024 {
         Fe1024 {
             c0: self.c0.neg(),
@@ -121,6 +121,6 @@ impl ExtensionField for Fe1024 {
         (self == Fe1024::lift(self.c0)).then_some(self.c0)
     }
 
-    #[tactic(auto, using(crate::specs::Laws1024::lift1024_lifts))]
+    #[tactic(auto, using(crate::specs::Laws::Gf1024::lift1024_lifts))]
     fn lift_laws() {}
 }

@@ -1,7 +1,8 @@
 // GF(32) is a field, and a field above itself. Products and inverses go by logarithms to the base t.
-ghost use Rattle.std.specs.Prelude.{refl};
+ghost use Rattle.std.specs.List.{range_with_len};
+ghost use Rattle.std.specs.Prelude.{◌≡◌, map, refl};
 ghost use Rattle.fields.specs.Gf32.{gf32, gf32_numbers, gf32_generator, fe_decides};
-ghost use Rattle.fields.specs.Cyclic.{gf32_cyclic, gf32_characteristic_two};
+ghost use Rattle.fields.specs.Laws.Gf32.{gf32_cyclic, gf32_characteristic_two};
 ghost use Rattle.std.proofs.lemmas.Bool.Decides.{Decides-at};
 
 use super::Fe32;
@@ -106,4 +107,47 @@ impl ExtensionField for Fe32 {
     }
 
     fn lift_laws() {}
+}
+
+impl Fe32 {
+    /// All elements in the order of their numbers.
+    #[tactic(auto, unfolding(crate::specs::Gf32::gf32_numbers))]
+    pub fn elements() -> [Fe32; 32]
+        ensures { map gf32_numbers.number result ≡ range_with_len 0 32 }
+    {
+        [
+            Fe32::Q,
+            Fe32::P,
+            Fe32::Z,
+            Fe32::R,
+            Fe32::Y,
+            Fe32::_9,
+            Fe32::X,
+            Fe32::_8,
+            Fe32::G,
+            Fe32::F,
+            Fe32::_2,
+            Fe32::T,
+            Fe32::V,
+            Fe32::D,
+            Fe32::W,
+            Fe32::_0,
+            Fe32::S,
+            Fe32::_3,
+            Fe32::J,
+            Fe32::N,
+            Fe32::_5,
+            Fe32::_4,
+            Fe32::K,
+            Fe32::H,
+            Fe32::C,
+            Fe32::E,
+            Fe32::_6,
+            Fe32::M,
+            Fe32::U,
+            Fe32::A,
+            Fe32::_7,
+            Fe32::L,
+        ]
+    }
 }

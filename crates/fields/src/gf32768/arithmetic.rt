@@ -1,7 +1,7 @@
 // GF(32768) is a field above GF(32).
 ghost use Rattle.std.specs.Prelude.{refl};
 ghost use Rattle.fields.specs.Gf32768.{gf32768, gf32768_numbers, gf32768_generator, lift32768, fe32768_decides};
-ghost use Rattle.fields.specs.Laws32768.{gf32768_cyclic, gf32768_characteristic_two};
+ghost use Rattle.fields.specs.Laws.Gf32768.{gf32768_cyclic, gf32768_characteristic_two};
 ghost use Rattle.std.proofs.lemmas.Bool.Decides.{Decides-at};
 
 use super::Fe32768;
@@ -59,7 +59,7 @@ impl Field for Fe32768 {
         &ORDER_FACTORS
     }
 
-    #[tactic(auto, unfolding(crate::specs::Gf32768::gf32768, algebra::proofs::Carried::carried, algebra::proofs::Cubic::cubic))]
+    #[tactic(auto, unfolding(crate::specs::Gf32768::gf32768))]
     fn add(self, other: Fe32768) -> Fe32768 {
         Fe32768 {
             c0: self.c0.add(other.c0),
@@ -69,7 +69,7 @@ impl Field for Fe32768 {
     }
 
     // ζ³ goes to the first two parts, ζ⁴ to the last two.
-    #[tactic(auto, unfolding(crate::specs::Gf32768::gf32768, algebra::proofs::Carried::carried, algebra::proofs::Cubic::cubic))]
+    #[tactic(auto, unfolding(crate::specs::Gf32768::gf32768))]
     fn mul(self, other: Fe32768) -> Fe32768 {
         let linear = self.c0.mul(other.c1).add(self.c1.mul(other.c0));
         let square = self.c0.mul(other.c2).add(self.c1.mul(other.c1));
@@ -82,7 +82,7 @@ impl Field for Fe32768 {
         }
     }
 
-    #[tactic(auto, unfolding(crate::specs::Gf32768::gf32768, algebra::proofs::Carried::carried, algebra::proofs::Cubic::cubic))]
+    #[tactic(auto, unfolding(crate::specs::Gf32768::gf32768))]
     fn neg(self) -> Fe32768 {
         Fe32768 {
             c0: self.c0.neg(),
@@ -142,6 +142,6 @@ impl ExtensionField for Fe32768 {
         (self == Fe32768::lift(self.c0)).then_some(self.c0)
     }
 
-    #[tactic(auto, using(crate::specs::Laws32768::lift32768_lifts))]
+    #[tactic(auto, using(crate::specs::Laws::Gf32768::lift32768_lifts))]
     fn lift_laws() {}
 }

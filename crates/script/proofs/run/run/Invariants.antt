@@ -6,3 +6,4 @@ abbrev pub invariant-loop-i : goal.invariant-loop-i
 invariant-loop-i g l =
     LeadsEachSlip g.K.CodeSet.codes l.initial.slips (take l.i l.steps) l.replies l.slips
     × LeavesReplies (length l.initial.slips) (take l.i l.steps) l.initial.replies l.replies
+    × (g.K.CodeSet.clear l.initial.workspace → g.K.CodeSet.clear l.workspace)

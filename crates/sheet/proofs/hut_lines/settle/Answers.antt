@@ -2,4 +2,4 @@ use Rattle.script.specs.declared.script.Call.TheVariants.{Settle}
 use Rattle.sheet.proofs.hut_lines.settle.Goals as goal
 
 pub returns-clause-decided : goal.returns-clause-decided
-returns-clause-decided c b = c.run.ensures.decided b (Settle (record { code = record {} }) (record { records = 16; working = 216 }))
+returns-clause-decided c = c.call.ensures.decided

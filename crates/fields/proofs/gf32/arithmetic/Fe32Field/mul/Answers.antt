@@ -1,6 +1,6 @@
 use Rattle.std.proofs.Common.{◌≡◌, sym, ◌∙◌, ap₂, inl, inr}
 use Rattle.fields.specs.Binary.{binary_product}
-use Rattle.fields.specs.BinaryLaws.{product_comm}
+use Rattle.fields.specs.Laws.Binary.{product_comm}
 use Rattle.fields.specs.Gf32.{gf32, fe_path}
 use Rattle.fields.proofs.Logarithms.{power_sum, zero_product}
 use Rattle.fields.proofs.gf32.arithmetic.Fe32Field.mul.Goals as goal

@@ -1,8 +1,8 @@
--- The laws of the product below 32, each by one test of all cases that antt computes.
+-- The laws of the product below 32, each by a test of all cases, which is computed when the proof is checked.
 use Rattle.std.specs.Prelude.{◌≡◌, ℕ, zero, suc, ◌<◌, bit_xor, nat_eq, nat_lt, refl}
 use Rattle.std.proofs.Common.{arith, eqb→eq, ltb→lt}
 use Rattle.fields.specs.Binary.{binary_product, binary_power}
-use Rattle.fields.specs.Every.{every_at, at₂, at₃}
+use Rattle.algebra.proofs.Tests.{every_at, at₂, at₃}
 
 pub product_lt : (a b : ℕ) → a < 32 → b < 32 → binary_product a b < 32
 unfolding binary_product

@@ -4,7 +4,7 @@ use Rattle.std.proofs.Common.{ap, sym, subst, ◌∙◌, arith, lit<}
 use Rattle.std.specs.Int.Bits.{xor_self}
 use Rattle.algebra.specs.Field.{IsCyclic, HasCharacteristicTwo, HasOrder, pow}
 use Rattle.fields.specs.Binary.{binary_product, binary_power}
-use Rattle.fields.specs.Every.{every_at}
+use Rattle.algebra.proofs.Tests.{every_at}
 use Rattle.fields.specs.Gf32.{gf32, gf32_numbers, gf32_generator, fe_path}
 use Rattle.fields.specs.declared.gf32.Fe32.{Fe32}
 

@@ -1,9 +1,9 @@
--- No element r of GF(32) has r² = 1 + r, and none r³ = r + 1: tests of 32 cases that antt computes.
+-- No element r of GF(32) has r² = 1 + r, and none has r³ = r + 1: tests of 32 cases, computed when the proof is checked.
 use Rattle.std.specs.Prelude.{◌≡◌, ℕ, ◌<◌, not, T, ◌==◌, bit_xor}
 use Rattle.std.proofs.Common.{ap, subst}
 use Rattle.std.proofs.lemmas.Bool.{eq-eqb}
 use Rattle.fields.specs.Binary.{binary_product}
-use Rattle.fields.specs.Every.{every_at}
+use Rattle.algebra.proofs.Tests.{every_at}
 use Rattle.fields.specs.Gf32.{gf32}
 use Rattle.fields.specs.declared.gf32.Fe32.{Fe32}
 
