@@ -1,6 +1,6 @@
 -- The examples of mending stand.
 use Rattle.std.specs.List.{AllByRecursion}
-use Rattle.std.proofs.Common.{◌≡◌, ℕ, ◌+◌, ◌<◌, ◌≤◌, List, [], ◌∷◌, map, length, None, sym, refl, ap, ◌∙◌, subst, ap₂, arith, lit≤}
+use Rattle.std.proofs.Common.{◌≡◌, ℕ, ◌+◌, ◌<◌, ◌≤◌, List, [], ◌∷◌, map, length, Some, None, sym, refl, ap, ◌∙◌, subst, ap₂, arith, lit≤}
 use native.Mathlib.Decide.{dec_le, dec_lt, ℕ_discrete}
 use Rattle.algebra.specs.Field.{IsEmbedding, pow}
 use Rattle.algebra.specs.Poly.{eval}
@@ -10,19 +10,17 @@ use Rattle.algebra.proofs.Flags.{length_positions}
 use Rattle.algebra.proofs.Laws.{add_zero, mul_zero}
 use Rattle.algebra.proofs.Mended.{mends}
 use Rattle.algebra.proofs.Near.{one_more_doubt_by}
-use Rattle.book.specs.Book.{Book, mark, row}
-use Rattle.book.specs.Calls.{search_fault, listing_of, refused, solves, one_near, none_near}
-use Rattle.book.specs.declared.call_fault.CallFault.TheVariants.{Code as of_code}
+use Rattle.book.specs.Book.{Book, undoubted_place, mark, row}
+use Rattle.book.specs.Calls.{search_fault, listing_of, solves, settles, one_near, none_near}
 use Rattle.book.specs.Codes.{IsLawful, IsNear, IsSound}
-use Rattle.book.specs.declared.code_fault.CodeFault.TheVariants.{Unfit}
 use Rattle.book.proofs.Numbers.{all_below_all, rows_lawful, near_elements, in_elements, elements, elements_numbers}
-use Rattle.book.proofs.Same.{same}
+use Rattle.book.proofs.Same.{within, one_near_row, same}
 use Rattle.checksum.specs.Finish.{finish, finish_rows}
 use Rattle.checksum.proofs.FinishLaws.{finish_lawful}
 use Rattle.fields.specs.Binary.{binary_product}
 use Rattle.fields.specs.Gf32.{gf32, fe_dec_eq, fe_path, gf32_numbers}
 use Rattle.fields.specs.declared.gf32.Fe32.{Fe32}
-use Rattle.examples.specs.Mended.{sent_row, garbled_book, unsound_book, unchecked_book, Solves, ExamplesMend}
+use Rattle.examples.specs.Mended.{sent_row, garbled_book, unsound_book, unchecked_book, Solves, unmendable_example, ExamplesMend}
 
 lifts : IsEmbedding gf32 gf32 (λ (x : Fe32). x)
 lifts = record { sums = λ x y. refl; products = λ x y. refl; one_to_one = λ x y e. e }
@@ -92,23 +90,33 @@ far_unsound n h =
     none [] e f root = omega arith
     none (p ∷ ps) e f root = never_zero (gf32.inv (pow gf32 finish.root p)) (root p here)
 
-found_one : (b : Book) (n : List ℕ) → search_fault finish_rows 4 72 b ≡ None → IsNear finish_rows b n → Solves (b, listing_of finish_rows b n)
-found_one b n free near a next f = (same lawful f (solves (one_near free near))).0
+module _ (b : Book) (free : search_fault finish_rows 4 72 b ≡ None) where
+  found_one : (n : List ℕ) → IsNear finish_rows b n
+      → Solves (record { before = b; answer = listing_of finish_rows b n; near = Some n; after_settle = map undoubted_place n })
+  found_one n near = record {
+    near = (near, λ m h. one_near_row finish_rows lawful b m n (within finish_rows 4 72 b free) h near);
+    solved = record { gives = solves (one_near free near); nothing_else = λ a next f. same lawful f (solves (one_near free near)) };
+    settled = record { gives = settles (one_near free near); nothing_else = λ a next f. same lawful f (settles (one_near free near)) };
+  }
 
-found_none : (b : Book) → search_fault finish_rows 4 72 b ≡ None → ((n : List ℕ) → ¬ IsNear finish_rows b n) → Solves (b, refused (of_code Unfit))
-found_none b free far a next f = (same lawful f (solves (none_near free far))).0
+  found_none : ((n : List ℕ) → ¬ IsNear finish_rows b n) → Solves (unmendable_example b)
+  found_none far = record {
+    near = far;
+    solved = record { gives = solves (none_near free far); nothing_else = λ a next f. same lawful f (solves (none_near free far)) };
+    settled = record { gives = settles (none_near free far); nothing_else = λ a next f. same lawful f (settles (none_near free far)) };
+  }
 
 pub mended : ExamplesMend
 unfolding finish gf32 gf32_numbers binary_product ℕ_discrete
 mended = (
-  found_one garbled_book sent_row refl near_garbled,
+  found_one garbled_book refl sent_row near_garbled,
   (
-    found_one (mark 3 garbled_book) sent_row refl near_doubted,
+    found_one (mark 3 garbled_book) refl sent_row near_doubted,
     (
       found_none (mark 4 (mark 3 garbled_book)) refl far_doubted,
       (
         found_none unsound_book refl far_unsound,
-        (found_one unchecked_book sent_row refl near_unchecked, tt),
+        (found_one unchecked_book refl sent_row near_unchecked, tt),
       ),
     ),
   ),

@@ -11,7 +11,8 @@ pub fn examples_stand()
     ensures { computed_rows ≡ expected_rows }
 {}
 
-/// Every example of mending stands: solve answers what is listed, and nothing else.
+/// Every example of mending stands: solve and settle answer what is listed and leave the book that is listed, and nothing else;
+/// and the row that is near is the listed one alone, or there is none.
 pub fn mended_examples_stand()
     ensures { ExamplesMend }
 {}

@@ -1,11 +1,12 @@
 // Sets of codes. A script names the code of each call by a value, so that one script can use several codes; a set says
 // what its values name.
-ghost use Rattle.std.specs.Prelude.{◌≡◌, ℕ, ◌++◌, drop, min, replicate, take};
+ghost use Rattle.std.specs.Prelude.{◌≡◌, ℕ, true, ◌++◌, drop, min, replicate, take};
 ghost use Rattle.book.specs.Calls.{Follows, plain_answer, seal};
 ghost use Rattle.book.specs.declared.call_fault.CallFault.TheVariants.{Code as of_code};
 ghost use Rattle.algebra.specs.NumericCode.{NumericCode};
 ghost use Rattle.book.specs.Codes.{IsLawful};
-ghost use Rattle.correction.specs.Answers.{FindsNear, zeros};
+ghost use Rattle.correction.specs.Answers.{FindsNear};
+ghost use Rattle.lists.specs.Faults.{zeros_if};
 ghost use Rattle.script.specs.Script.{workspace_left};
 ghost use Rattle.either.specs.Either.{either};
 
@@ -81,7 +82,7 @@ impl<C: Checksum> CodeSet for Single<C> {
     ghost clear = { λ d. d.work ≡ replicate 216 C.CorrectionField.field.𝟘 };
 
     ghost cleared = { λ _ w d. record {
-        work = zeros C.CorrectionField.field (take (min w 216) d.work) ++ drop (min w 216) d.work
+        work = zeros_if C.CorrectionField.field true (take (min w 216) d.work) ++ drop (min w 216) d.work
     } };
 
     fn laws() {
