@@ -76,7 +76,8 @@ pub fn letter_case(byte: u8) -> Option<Case>
 /// The character of a symbol, none from 32 on. Reading it gives the symbol back.
 pub fn write_character(symbol: u8, case: Case) -> Option<u8>
     ensures value { result ≡ write_character case symbol }
-    ensures read_back { IfSome result (λ byte. read_character byte ≡ Some (Character.Symbol symbol)) }
+    ensures read_back { IfSome result
+        (λ byte. read_character byte ≡ Some (Character.Symbol symbol)) }
 {
     let small = *SET.get(usize::from(symbol))?;
     match case {
