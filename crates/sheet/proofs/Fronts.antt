@@ -1,4 +1,4 @@
--- What stands at the front of a list, up to a place that a search finds.
+-- The front of a list, up to a place that a search finds.
 use Rattle.std.proofs.Common.{◌≡◌, ℕ, ◌+◌, Bool, true, false, cond, not, List, [], ◌∷◌, length, take, unwrap_or, refl, one-add, arith}
 use Rattle.std.specs.List.{before_first, position, position_or_len}
 use Rattle.std.proofs.lemmas.Bool.Decides.{nat_tests}

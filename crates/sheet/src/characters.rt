@@ -1,4 +1,4 @@
-// The 32 characters that stand for symbols. Each stands for its place in the set, in either case of a letter.
+// The 32 characters of the symbols. The symbol of each is its place in the set, in either case of a letter.
 ghost use Rattle.std.specs.Prelude.{◌≡◌, IfSome};
 ghost use Rattle.sheet.specs.Characters.{letter_case, read_character, write_character};
 

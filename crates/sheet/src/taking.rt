@@ -15,7 +15,7 @@ use crate::pieces::{Piece, Pieces};
 use book::SlipFault;
 use slip::Slip;
 
-/// Why a byte is refused, wherever it stands.
+/// Why a byte is refused, at whatever place.
 #[derive(Clone, Copy, Debug)]
 pub enum ByteFault {
     /// The slip refuses what the byte says.
