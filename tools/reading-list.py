@@ -17,12 +17,8 @@ import sys
 from parts import FILES, Part, reach
 from reader import load
 
-# The main promises: each function by all names that it may have, as CRATE:name.
-MAIN = [
-    ["script:run"],
-    ["hut_lines:finish_line", "sheet:finish_line", "hut:finish_line"],
-    ["hut_lines:finish_sheet", "sheet:finish_sheet", "hut:finish_sheet"],
-]
+# The functions whose contracts are the main promises, as CRATE:name.
+MAIN = [["script:run"], ["sheet:finish_line"], ["sheet:finish_stream"]]
 OUTSIDE = re.compile("replay|examples|bip173")
 VERBS = """Adds Admits Agrees All Allows Answers Any Appends Becomes Calls Changes Contains Corrects Covers Decides Divides Does
 Drops Each Embeds Ends Every Factors Finds Fits Follows Forms Generates Gives Goes Has Holds If Is Keeps Lacks Leads Leaves

@@ -7,9 +7,10 @@ use Rattle.book.specs.Calls.{BookAnswer, Follows, SearchGives, plain_answer, lis
 use Rattle.algebra.specs.NumericCode.{NumericCode}
 use Rattle.book.specs.Codes.{IsLawful, IsNear, IsSound}
 use Rattle.book.specs.Promise.{IsRefusal, IsWorkable, SolveGives, SettleGives, Gives, GivesOnly, KeepsPromise}
-use Rattle.book.specs.SlipFaults.{slip_refusal}
+use Rattle.book.specs.declared.call_fault.CallFault.TheVariants.{Slip as of_slip}
 use Rattle.book.specs.declared.record.Record.{Record}
 use Rattle.book.specs.declared.slip_fault.SlipFault.TheVariants.{Absent}
+use Rattle.book.proofs.OnlyPattern.{only_pattern}
 use Rattle.book.proofs.Same.{same, within, workable}
 
 gives : (C : NumericCode) → IsLawful C → (b : Book) (n : List ℕ) (r w : ℕ) → IsWorkable C r w b → IsNear C b n → Gives C r w b n
@@ -35,7 +36,7 @@ refuses C b none r w a next (inr (settles m)) = let why = refused_mends none m i
 doubt_marks : {b : Book} {p : ℕ} {d : Book} {a : BookAnswer} → Follows b (doubt p) a d → a ≡ done → d ≡ mark p b
 doubt_marks {b} {p} doubting e = by (leb (length b) p) e
   where
-    by : (absent : Bool) → plain_answer slip_refusal (cond absent (Err (Absent p)) (Ok (mark p b))) ≡ done → book_after b (cond absent (Err (Absent p)) (Ok (mark p b))) ≡ mark p b
+    by : (absent : Bool) → plain_answer of_slip (cond absent (Err (Absent p)) (Ok (mark p b))) ≡ done → book_after b (cond absent (Err (Absent p)) (Ok (mark p b))) ≡ mark p b
     by true e = let z : ◌≡◌ {A = ℕ} 0 1 = cc in absurd (omega arith)
     by false e = refl
 
@@ -73,4 +74,4 @@ one_more C law b next r w cs i j (solves (one_near {n = n} e x)) =
     )
 
 pub promise : (C : NumericCode) → IsLawful C → KeepsPromise C
-promise C law = record { restores = gives C law; refuses = refuses C; one_more = one_more C law }
+promise C law = record { restores = gives C law; refuses = refuses C; one_more = one_more C law; one_pattern = λ b n below short near. only_pattern C law b below n short near }

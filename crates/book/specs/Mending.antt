@@ -3,8 +3,9 @@
 --   nonzero_count   how many of them change something
 --   subtracted  a row after changes were taken off
 --   Fits        a list of records is a pattern that fits within the bound, whoever proposed it
+--   IsOnlyPattern   it fits and leads to a row, and each that fits has the same records
 use Rattle.std.specs.List.{AllByRecursion}
-use Rattle.std.specs.Prelude.{◌≡◌, ℕ, ◌+◌, ◌-◌, ◌*◌, ◌<◌, ◌≤◌, Bool, true, false, cond, not, List, [], ◌∷◌, ◌++◌, count_by, map, length, take, drop, ◌==◌, slice_index, slice_set}
+use Rattle.std.specs.Prelude.{◌≡◌, ℕ, ◌+◌, ◌-◌, ◌*◌, ◌<◌, ◌≤◌, Bool, true, false, cond, not, List, [], ◌∷◌, ◌++◌, count_by, map, length, take, drop, ◌==◌, slice_index, slice_set, IsPermutation}
 use Rattle.std.proofs.Math.Decide.{ℕ_discrete}
 use Rattle.algebra.specs.Rows.{is_wrong}
 use Rattle.algebra.specs.Series.{Mem}
@@ -63,3 +64,9 @@ pub record Fits (C : NumericCode) (b : Book) (cs : List Record) : Type 0 where
   pub changed : AllByRecursion (λ c. doubted_at c.place b ≡ false → ¬ (c.change ≡ C.zero)) cs
   pub within : 2 * undoubted_count b cs + doubts b ≤ C.bound
   pub sound : IsSound C (row_less C cs (row b))
+
+-- cs fits and makes the book's row n, and every list of records that fits is cs in some order
+pub record IsOnlyPattern (C : NumericCode) (b : Book) (n : List ℕ) (cs : List Record) : Type 0 where
+  pub fits : Fits C b cs
+  pub subtracted : row_less C cs (row b) ≡ n
+  pub only : (ds : List Record) → Fits C b ds → IsPermutation ds cs

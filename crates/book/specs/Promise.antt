@@ -1,14 +1,16 @@
 -- What is promised of solve and settle by a code.
+use Rattle.std.specs.List.{AllByRecursion}
 use Rattle.std.specs.Prelude.{◌≡◌, ℕ, ◌+◌, ◌*◌, ◌<◌, ◌≤◌, ◌⊎◌, List, map, length}
-use Rattle.fields.specs.declared.fault.Refusal.{Refusal}
-use Rattle.book.specs.Book.{Book, undoubted_place}
+use Rattle.book.specs.Book.{Book, row, undoubted_place}
 use Rattle.book.specs.Calls.{BookAnswer, Follows, listing_of, doubt, solve, settle, done, refused, listed}
 use Rattle.algebra.specs.NumericCode.{NumericCode}
 use Rattle.book.specs.Codes.{IsNear}
+use Rattle.book.specs.Mending.{changes, IsOnlyPattern}
+use Rattle.book.specs.declared.call_fault.CallFault.{CallFault}
 use Rattle.book.specs.declared.record.Record.{Record}
 
 abbrev pub IsRefusal : BookAnswer → Type 0
-IsRefusal a = (why : Refusal) × (a ≡ refused why)
+IsRefusal a = (fault : CallFault) × (a ≡ refused fault)
 
 -- the row is neither too short nor too long, and the lent lists are long enough
 pub record IsWorkable (C : NumericCode) (r w : ℕ) (b : Book) : Type 0 where
@@ -44,3 +46,6 @@ pub record KeepsPromise (C : NumericCode) : Type 0 where
   pub one_more : (b next : Book) (r w : ℕ) (cs : List Record) (i j : ℕ) → Follows b (solve C r w) (listed cs i j) next
       → (n : List ℕ) × IsNear C b n × SolveGives C b n (listed cs i j) next
       × ((p : ℕ) (doubted : Book) → Follows next (doubt p) done doubted → (r' w' : ℕ) → GivesOnly C r' w' doubted n)
+  -- what is listed of a near row within the limit is the one pattern that fits, and makes the row that row
+  pub one_pattern : (b : Book) (n : List ℕ) → AllByRecursion (λ v. v < C.size) (row b) → length b ≤ C.limit → IsNear C b n
+      → IsOnlyPattern C b n (changes C b n)

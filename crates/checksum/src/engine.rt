@@ -1,5 +1,5 @@
 // The engine that works out a row's residue symbol by symbol, and with it the checking and the sealing of rows.
-ghost use Rattle.std.specs.Prelude.{List, ◌≡◌, ◌∷◌, reverse, length, take, replicate, Decides};
+ghost use Rattle.std.specs.Prelude.{List, ◌≡◌, ◌∷◌, map, reverse, length, take, replicate, Decides};
 ghost use Rattle.algebra.specs.Code.{checks, modulo, poly_one, residue, residue_from, completion, seal, IsSoundRow, IsOnlySeal};
 ghost use Rattle.algebra.specs.Poly.{poly_sub};
 ghost use Rattle.algebra.specs.Remainder.{IsRemainder};
@@ -99,26 +99,38 @@ impl<C: Checksum> Engine<C> {
         }
     }
 
-    // What the residue lacks to the target, highest power first.
-    fn missing(self) -> CheckSymbols<C>
-        ensures { result ≡ reverse (poly_sub C.SymbolField.field C.code.target self) }
+    /// From the residue to what it lacks to the target.
+    pub fn subtract_from_target(&mut self)
+        ensures { self.new ≡ poly_sub C.SymbolField.field C.code.target self.old }
     {
         C::laws();
-        let mut entries = self.entries;
-        let residue = &mut entries[..C::CHECKSUM_LENGTH];
+        let residue = &mut self.entries[..C::CHECKSUM_LENGTH];
         for (power, coefficient) in residue.iter_mut().enumerate() {
             *coefficient = difference(C::target_residue(power), *coefficient);
         }
-        residue.reverse();
-        CheckSymbols { symbols: entries }
+    }
+
+    /// From the residue to its negative.
+    pub fn negate(&mut self)
+        ensures { self.new ≡ map C.SymbolField.field.neg self.old }
+    {
+        C::laws();
+        let residue = &mut self.entries[..C::CHECKSUM_LENGTH];
+        for coefficient in residue.iter_mut() {
+            *coefficient = coefficient.neg();
+        }
     }
 
     /// The k symbols that take the residue to the target, in the order of writing.
     pub fn completion(mut self) -> CheckSymbols<C>
         ensures { result ≡ completion C.SymbolField.field C.code self }
     {
+        C::laws();
         self.input_zeros();
-        self.missing()
+        self.subtract_from_target();
+        let mut symbols = self.entries;
+        symbols[..C::CHECKSUM_LENGTH].reverse();
+        CheckSymbols { symbols }
     }
 }
 

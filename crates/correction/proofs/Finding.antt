@@ -8,13 +8,15 @@ use Rattle.std.specs.Bool.{then_some}
 use Rattle.algebra.specs.Field.{FieldOn, Enumeration}
 use Rattle.book.specs.Book.{Book, row, undoubted_place}
 use Rattle.book.specs.Calls.{Follows, SearchGives, listed, listing_of, none_near, one_near, refused, settle, settles, solve, solves, search_fault}
-use Rattle.book.specs.CodeFaults.{code_refusal}
+use Rattle.book.specs.declared.call_fault.CallFault.TheVariants.{Code as of_code}
 use Rattle.algebra.specs.NumericCode.{NumericCode}
 use Rattle.book.specs.Codes.{IsLawful, IsNear}
-use Rattle.book.specs.Mending.{Fits, changes, nonzero_count, row_less}
+use Rattle.book.specs.Mending.{Fits, IsOnlyPattern, changes, nonzero_count, row_less}
 use Rattle.book.specs.declared.code_fault.CodeFault.TheVariants.{Unfit}
 use Rattle.book.specs.declared.record.Record.{Record}
 use Rattle.book.proofs.Fitting.{changes_fit, few_changes, fits_near}
+use Rattle.book.proofs.OnlyPattern.{only_pattern}
+use Rattle.correction.specs.Answers.{IsNearPattern}
 use Rattle.correction.specs.Proposals.{Proposes}
 use Rattle.correction.specs.declared.pattern.Pattern.{Pattern}
 use Rattle.correction.specs.MendingSteps.Found.{IsFinding, SearchFinds}
@@ -55,19 +57,18 @@ module _ (C : NumericCode) (r w : ℕ) (b : Book) where
           workable = none;
           near = near;
           listed = listed;
-          subtracts = refl;
-          symbols = fits.symbols;
+          only = subst (IsOnlyPattern C b n) (sym listed) (only_pattern C law b symbols n can.short near);
           room = omega (arith, few, long, can.room);
         }
 
-    unfit : (p : Pattern) → Proposes C b w (Some p) → ¬ Fits C b p → SearchGives C r w b (refused (code_refusal Unfit)) None
+    unfit : (p : Pattern) → Proposes C b w (Some p) → ¬ Fits C b p → SearchGives C r w b (refused (of_code Unfit)) None
     unfit p proposes never = none_near none (λ n near.
         let can = able none in
         let same : Some p ≡ Some (changes C b n) = proposes n can.short can.working near in
         let listed : p ≡ changes C b n = cc in
         never (subst (Fits C b) (sym listed) (changes_fit C law b n symbols near)))
 
-    none_found : Proposes C b w None → SearchGives C r w b (refused (code_refusal Unfit)) None
+    none_found : Proposes C b w None → SearchGives C r w b (refused (of_code Unfit)) None
     none_found proposes = none_near none (λ n near.
         let can = able none in
         let same : None ≡ Some (changes C b n) = proposes n can.short can.working near in
@@ -85,9 +86,15 @@ module _ (C : NumericCode) (r w : ℕ) (b : Book) where
 
   -- the records of an answer, at the front of a list
   module _ (cs rs old : List Record) (i j : ℕ) (f : IsFinding C r w b cs) (many : i ≡ length cs) (changed : j ≡ nonzero_count C cs) (front : rs ≡ cs ++ drop (length cs) old) where
+    front_taken : take i rs ≡ cs
+    front_taken = ap (take i) front ∙ take_at cs (drop (length cs) old) i (sym many)
+
+    pub patterned : IsNearPattern C b (take i rs)
+    patterned = record { meant = f.meant; near = f.near; only = subst (IsOnlyPattern C b f.meant) (sym front_taken) f.only }
+
     answer : listed (take i rs) i j ≡ listing_of C b f.meant
     answer =
-        let taken : take i rs ≡ changes C b f.meant = ap (take i) front ∙ take_at cs (drop (length cs) old) i (sym many) ∙ f.listed in
+        let taken : take i rs ≡ changes C b f.meant = front_taken ∙ f.listed in
         let as_many : i ≡ length (changes C b f.meant) = many ∙ ap length f.listed in
         let as-changed : j ≡ nonzero_count C (changes C b f.meant) = changed ∙ ap (nonzero_count C) f.listed in
         cc
@@ -98,5 +105,5 @@ module _ (C : NumericCode) (r w : ℕ) (b : Book) where
     -- es, a copy, was subtracted
     pub settled_by : (es : List Record) → es ≡ cs → (next : Book) → next ≡ map undoubted_place (row_less C es (row b)) → Follows b (settle C r w) (listed (take i rs) i j) next
     settled_by es same next is-next =
-        let row_is : next ≡ map undoubted_place f.meant = is-next ∙ ap (λ fs. map undoubted_place (row_less C fs (row b))) same ∙ ap (map undoubted_place) f.subtracts in
+        let row_is : next ≡ map undoubted_place f.meant = is-next ∙ ap (λ fs. map undoubted_place (row_less C fs (row b))) same ∙ ap (map undoubted_place) f.only.subtracted in
         subst (λ d. Follows b (settle C r w) (listed (take i rs) i j) d) (sym row_is) (subst (λ a. Follows b (settle C r w) a (map undoubted_place f.meant)) (sym answer) (settles (one_near f.workable f.near)))

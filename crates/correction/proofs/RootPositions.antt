@@ -2,15 +2,15 @@
 -- position 0, and from then on positions fall.
 --   Falls m ps        each position is below the one before it, the first below m
 --   zero_first ps     position 0 first, if it is listed, then the others in their order
-use Rattle.std.specs.List.{AllByRecursion}
-use Rattle.std.proofs.Common.{◌≡◌, ℕ, zero, suc, ◌+◌, ◌-◌, ◌<◌, ◌≤◌, Bool, true, false, ◌⊎◌, List, [], ◌∷◌, ◌++◌, map, length, take, drop, sym, refl, ap, ◌∙◌, subst, ap₂, inl, inr, arith}
+use Rattle.std.specs.List.{AllByRecursion, filter, range_with_len}
+use Rattle.std.proofs.Common.{◌≡◌, ℕ, zero, suc, ◌+◌, ◌-◌, ◌<◌, ◌≤◌, Bool, true, false, cond, not, ◌⊎◌, List, [], ◌∷◌, ◌++◌, map, length, take, drop, sym, refl, ap, ◌∙◌, subst, ap₂, inl, inr, add-one, arith}
 use Rattle.std.proofs.lemmas.List.{length-append, length-take-le}
 use Rattle.std.proofs.lemmas.Bool.{cases_lt}
 use Rattle.algebra.specs.Code.{Code, IsLawfulCode}
 use Rattle.algebra.specs.Decode.{root_position}
 use Rattle.algebra.specs.Field.{FieldOn, HasOrder, IsEmbedding, pow}
 use Rattle.algebra.specs.Poly.{eval}
-use Rattle.algebra.specs.Rows.{BookOf, IsNearRow, error_positions, found_locator, IsRoot, positions, wrong_places}
+use Rattle.algebra.specs.Rows.{BookOf, IsNearRow, error_positions, found_locator, is_no, IsRoot, positions, wrong_places}
 use Rattle.algebra.specs.Series.{Mem, here, there}
 use Rattle.algebra.proofs.Changes.{length_wrong}
 use Rattle.algebra.proofs.Chien.{root_is_inverse}
@@ -18,7 +18,7 @@ use Rattle.algebra.proofs.Flags.{positions_below}
 use Rattle.algebra.proofs.Members.{all_append, all_at, all_from}
 use Rattle.algebra.proofs.Mended.{mends}
 use Rattle.algebra.proofs.Orders.{powers_apart}
-use Rattle.lists.specs.Roots.{pick, roots, roots_from}
+use Rattle.lists.specs.Roots.{is_root, roots}
 
 abbrev pub Falls : ℕ → List ℕ → Type 0
 Falls m [] = Unit {0}
@@ -183,8 +183,25 @@ module _ (R : ℕ → Type 0) (k : ℕ) where
       later q b (inl e) = let f = same in absurd (omega arith)
       later q b (inr m) = m
 
+abbrev pick : {P : Type 0} → Dec P → ℕ → List ℕ → List ℕ
+pick (yes h) i js = i ∷ js
+pick (no h) i js = js
+
+picked : {P : Type 0} (d : Dec P) (i : ℕ) (js : List ℕ) → cond (not (is_no d)) (i ∷ js) js ≡ pick d i js
+picked (yes h) i js = refl
+picked (no h) i js = refl
+
 module _ {A : Type 0} (F : FieldOn A) (a : A) (ord : ℕ) (o : HasOrder F a ord) (p : List A) where
   open F use {𝟘, inv}
+
+  -- the indices of roots among the k from i on
+  abbrev roots_from : ℕ → ℕ → List ℕ
+  roots_from i k = filter (is_root F p a) (range_with_len i k)
+
+  first_root : (i k : ℕ) → roots_from i (suc k) ≡ pick (F.dec_eq (eval F p (pow F a i)) 𝟘) i (roots_from (suc i) k)
+  first_root i k =
+      ap (λ j. cond (is_root F p a i) (i ∷ roots_from j k) (roots_from j k)) (add-one i)
+      ∙ picked (F.dec_eq (eval F p (pow F a i)) 𝟘) i (roots_from (suc i) k)
 
   -- the locator of q is the inverse of a root
   abbrev Root : ℕ → Type 0
@@ -197,18 +214,19 @@ module _ {A : Type 0} (F : FieldOn A) (a : A) (ord : ℕ) (o : HasOrder F a ord)
   no_root_at i q h e n z = n (ap (eval F p) (root_is_inverse F a ord i o h ∙ ap (λ k. inv (pow F a k)) e) ∙ z)
 
   -- with k indices left, the position of the next is k
-  falling_positions : (k i : ℕ) → suc i + k ≡ ord → (ps : List ℕ) → Lists Root k ps → map (root_position ord) (roots_from F p a (suc i) k) ≡ ps
+  falling_positions : (k i : ℕ) → suc i + k ≡ ord → (ps : List ℕ) → Lists Root k ps → map (root_position ord) (roots_from (suc i) k) ≡ ps
   falling_positions zero i h [] l = refl
   falling_positions zero i h (q ∷ ps) l = let b = l.falls.0 in let c = l.positive.0 in absurd (omega arith)
   falling_positions (suc k) i h ps l =
-      by (F.dec_eq (eval F p (pow F a (suc i))) 𝟘) ps l (falling_positions k (suc i) (omega arith))
+      ap (map (root_position ord)) (first_root (suc i) k)
+      ∙ by (F.dec_eq (eval F p (pow F a (suc i))) 𝟘) ps l (falling_positions k (suc i) (omega arith))
     where
       next : root_position ord (suc i) ≡ suc k
       next = omega arith
 
       by : (d : Dec (eval F p (pow F a (suc i)) ≡ 𝟘)) (ps : List ℕ) → Lists Root (suc k) ps
-          → ((qs : List ℕ) → Lists Root k qs → map (root_position ord) (roots_from F p a (suc (suc i)) k) ≡ qs)
-          → map (root_position ord) (pick d (suc i) (roots_from F p a (suc (suc i)) k)) ≡ ps
+          → ((qs : List ℕ) → Lists Root k qs → map (root_position ord) (roots_from (suc (suc i)) k) ≡ qs)
+          → map (root_position ord) (pick d (suc i) (roots_from (suc (suc i)) k)) ≡ ps
       by (yes z) [] l ih = elim (l.no_other (suc k) (omega arith) (omega arith) (root_at (suc i) (suc k) (omega arith) next z)) [ ]
       by (yes z) (q ∷ qs) l ih =
           let found = lists_found Root k q qs l (root_at (suc i) (suc k) (omega arith) next z) in
@@ -220,7 +238,7 @@ module _ {A : Type 0} (F : FieldOn A) (a : A) (ord : ℕ) (o : HasOrder F a ord)
       → map (root_position ord) (roots F p a ord) ≡ zero_first ps
   root_positions ps falls holds no_other = by ord refl o.positive
     where
-      rest : (k : ℕ) → suc k ≡ ord → map (root_position ord) (roots_from F p a 1 k) ≡ others ps
+      rest : (k : ℕ) → suc k ≡ ord → map (root_position ord) (roots_from 1 k) ≡ others ps
       rest k h = falling_positions k 0 (omega arith) (others ps) (record {
         falls = subst (λ m. Falls m (others ps)) (sym h) (falls_others ord ps falls);
         positive = others_positive ps;
@@ -228,13 +246,13 @@ module _ {A : Type 0} (F : FieldOn A) (a : A) (ord : ℕ) (o : HasOrder F a ord)
         no_other = λ q b c r. listed_others ps b (no_other q (omega arith) r);
       })
 
-      first : (k : ℕ) → suc k ≡ ord → (d : Dec (eval F p (pow F a 0) ≡ 𝟘)) → map (root_position ord) (pick d 0 (roots_from F p a 1 k)) ≡ zero_first ps
+      first : (k : ℕ) → suc k ≡ ord → (d : Dec (eval F p (pow F a 0) ≡ 𝟘)) → map (root_position ord) (pick d 0 (roots_from 1 k)) ≡ zero_first ps
       first k h (yes z) = ap₂ ◌++◌ (sym (zeros_listed ord ps falls (no_other 0 o.positive (root_at 0 0 o.positive refl z)))) (rest k h)
       first k h (no n) = ap₂ ◌++◌ (sym (zeros_none ps (λ m. no_root_at 0 0 o.positive refl n (holds 0 m)))) (rest k h)
 
       by : (k : ℕ) → k ≡ ord → 0 < k → map (root_position ord) (roots F p a k) ≡ zero_first ps
       by zero h b = absurd (omega arith)
-      by (suc k) h b = first k h (F.dec_eq (eval F p (pow F a 0)) 𝟘)
+      by (suc k) h b = ap (map (root_position ord)) (first_root 0 k) ∙ first k h (F.dec_eq (eval F p (pow F a 0)) 𝟘)
 
 module _ {S E : Type 0} (s : FieldOn S) (e : FieldOn E) (up : S → E) (L : IsEmbedding s e up) (C : Code S E) (lawful : IsLawfulCode s e up C) (ord : ℕ) (o : HasOrder e C.root ord) where
   -- a row within the limit is not longer than the order

@@ -1,36 +1,45 @@
--- What solve and settle tell by their answers and by the lists that were lent.
---   told_list  the answer of a call, its records being at the front of a list
---   listed_count   how many of them are the answer's
---   workspace_after   the working list after an answer: all ZERO once a row was looked for
-use Rattle.std.specs.Prelude.{ℕ, List, length, take, replicate, Ok, Err, Result}
+-- What solve and settle answer, and what the lists that they are passed then hold.
+--   search_answer    the answer of a call, its records being at the front of a list
+--   listed_count     how many of them are the answer's
+--   IsNearPattern    a list of records is the one pattern that fits, and leads to a near row
+--   ListsPattern     the records of an answer are
+--   workspace_after  the working list after an answer: all ZERO once a row was looked for
+use Rattle.std.specs.Prelude.{ℕ, Bool, true, false, List, take, Ok, Err, Result}
 use Rattle.algebra.specs.Field.{FieldOn}
+use Rattle.algebra.specs.NumericCode.{NumericCode}
+use Rattle.book.specs.Book.{Book}
 use Rattle.book.specs.Calls.{BookAnswer, refused, listed}
-use Rattle.book.specs.CodeFaults.{code_refusal}
+use Rattle.book.specs.Codes.{IsNear}
+use Rattle.book.specs.Mending.{IsOnlyPattern}
+use Rattle.book.specs.declared.call_fault.CallFault.TheVariants.{Code as of_code}
 use Rattle.book.specs.declared.code_fault.CodeFault.{CodeFault}
-use Rattle.book.specs.declared.code_fault.CodeFault.TheVariants.{Short, Long, Records, Working, Doubts, Unfit}
+use Rattle.book.specs.declared.code_fault.CodeFault.TheVariants.{Unfit}
+use Rattle.lists.specs.Faults.{zeros_if}
 use Rattle.book.specs.declared.record.Record.{Record}
 
 abbrev pub search_answer : Result (ℕ × ℕ) CodeFault → List Record → BookAnswer
 search_answer (Ok n) rs = listed (take n.0 rs) n.0 n.1
-search_answer (Err fault) rs = refused (code_refusal fault)
+search_answer (Err fault) rs = refused (of_code fault)
 
 abbrev pub listed_count : Result (ℕ × ℕ) CodeFault → ℕ
 listed_count (Ok n) = n.0
 listed_count (Err fault) = 0
 
-module _ {E : Type 0} (F : FieldOn E) where
-  abbrev pub zeros : List E → List E
-  zeros work = replicate (length work) F.𝟘
+-- cs makes the row of b a row that is near, and is the only pattern that fits
+pub record IsNearPattern (C : NumericCode) (b : Book) (cs : List Record) : Type 0 where
+  pub meant : List ℕ
+  pub near : IsNear C b meant
+  pub only : IsOnlyPattern C b meant cs
 
-  -- after a refusal: only where no row fits was one looked for
-  abbrev pub workspace_after_fault : CodeFault → List E → List E
-  workspace_after_fault Short work = work
-  workspace_after_fault Long work = work
-  workspace_after_fault Records work = work
-  workspace_after_fault Working work = work
-  workspace_after_fault Doubts work = work
-  workspace_after_fault Unfit work = zeros work
+abbrev pub ListsPattern : NumericCode → Book → Result (ℕ × ℕ) CodeFault → List Record → Type 0
+ListsPattern C b (Ok n) rs = IsNearPattern C b (take n.0 rs)
+ListsPattern C b (Err fault) rs = Unit {0}
 
-  abbrev pub workspace_after : {X : Type 0} → Result X CodeFault → List E → List E
-  workspace_after (Ok _) work = zeros work
-  workspace_after (Err fault) work = workspace_after_fault fault work
+-- whether a row was looked for: only then was the working list written
+abbrev pub is_searched : {X : Type 0} → Result X CodeFault → Bool
+is_searched (Ok _) = true
+is_searched (Err Unfit) = true
+is_searched (Err _) = false
+
+abbrev pub workspace_after : {E X : Type 0} → FieldOn E → Result X CodeFault → List E → List E
+workspace_after F result work = zeros_if F (is_searched result) work

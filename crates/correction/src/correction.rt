@@ -1,11 +1,12 @@
 // Correcting a slip's row by a code. The steps are those of BCH decoding with erasures: the syndromes, the locator of the
 // erasures, the syndromes with the erasures folded out, the shortest register that generates these, whose connection list
 // locates the errors, its roots, and at each position the change by Forney's formula.
-ghost use Rattle.std.specs.Prelude.{◌≡◌, ◌+◌, ◌*◌, ◌≤◌, length};
+ghost use Rattle.std.specs.Prelude.{◌≡◌, ◌+◌, ◌*◌, ◌≤◌, length, nat_le};
 ghost use Rattle.algebra.specs.Code.{bound};
 ghost use Rattle.book.specs.Book.{marks};
 ghost use Rattle.correction.specs.Steps.Decoded.{Tells};
-ghost use Rattle.correction.specs.Proposals.{Proposes, work_after_search};
+ghost use Rattle.correction.specs.Proposals.{Proposes};
+ghost use Rattle.lists.specs.Faults.{zeros_if};
 ghost use Rattle.slip.specs.View.{IsHoldable};
 
 use crate::forney::Forney;
@@ -23,7 +24,7 @@ use slip::Slip;
 /// cut into parts from its front, which are lent on, and is all ZERO after. Nothing is proposed where it is shorter.
 pub fn bch_errors<C: Checksum>(slip: &Slip, work: &mut [C::CorrectionField]) -> Option<Pattern>
     ensures proposes { Proposes C.rows slip.now (length work.old) result }
-    ensures after { work.new ≡ work_after_search C.CorrectionField.field (bound C.code) work.old }
+    ensures after { work.new ≡ zeros_if C.CorrectionField.field (nat_le (12 * (bound C.code + 2)) (length work.old)) work.old }
 {
     C::laws();
     C::CorrectionField::lift_laws();

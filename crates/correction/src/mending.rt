@@ -3,7 +3,7 @@ ghost use Rattle.std.specs.Prelude.{◌≡◌, ◌≤◌, ◌++◌, ◌==◌, no
 ghost use Rattle.std.specs.Result.{result_err};
 ghost use Rattle.book.specs.Calls.{Follows, solve, settle, search_fault};
 ghost use Rattle.book.specs.Mending.{nonzero_count};
-ghost use Rattle.correction.specs.Answers.{search_answer, listed_count, workspace_after};
+ghost use Rattle.correction.specs.Answers.{search_answer, listed_count, ListsPattern, workspace_after};
 ghost use Rattle.correction.specs.MendingSteps.Found.{SearchFinds};
 ghost use Rattle.slip.specs.View.{IsHoldable};
 
@@ -26,6 +26,7 @@ pub fn solve<C: Checksum>(
 ) -> Result<(usize, usize), CodeFault>
     ensures follows { Follows slip.now (solve C.rows (length records.old) (length work.old))
         (search_answer result records.new) slip.now }
+    ensures pattern { ListsPattern C.rows slip.now result records.new }
     ensures past { drop (listed_count result) records.new ≡ drop (listed_count result) records.old }
     ensures working { work.new ≡ workspace_after C.CorrectionField.field result work.old }
 {
@@ -41,6 +42,7 @@ pub fn settle<C: Checksum>(
 ) -> Result<(usize, usize), CodeFault>
     ensures follows { Follows slip.old (settle C.rows (length records.old) (length work.old))
         (search_answer result records.new) slip.new }
+    ensures pattern { ListsPattern C.rows slip.old result records.new }
     ensures past { drop (listed_count result) records.new ≡ drop (listed_count result) records.old }
     ensures working { work.new ≡ workspace_after C.CorrectionField.field result work.old }
 {

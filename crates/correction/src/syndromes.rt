@@ -1,15 +1,14 @@
 // Syndromes: the residue of a slip's row less the target, at the roots of the generator polynomial. They depend on the
 // row's changes alone.
 ghost use Rattle.std.specs.Prelude.{◌≡◌, ◌+◌, ◌<◌, map, length};
-ghost use Rattle.algebra.specs.Code.{bound, checks};
+ghost use Rattle.algebra.specs.Code.{bound};
 ghost use Rattle.algebra.specs.Field.{pow};
-ghost use Rattle.algebra.specs.Poly.{eval, poly_sub, tab};
+ghost use Rattle.algebra.specs.Poly.{eval, tab};
 ghost use Rattle.algebra.specs.Rows.{syndrome};
 ghost use Rattle.book.specs.Book.{row};
 ghost use Rattle.slip.specs.Sealing.{elements_of};
 
 use checksum::Checksum;
-use fields::arithmetic::difference;
 use fields::powers::powers;
 use fields::{ExtensionField, Field};
 use lists::polynomial::evaluate_lifted;
@@ -27,17 +26,6 @@ fn values_at_powers<E: ExtensionField>(list: &[E::BaseField], a: E, first: usize
     }
 }
 
-// Takes the target's coefficients off a residue's.
-fn subtract_target<C: Checksum>(residue: &mut [C::SymbolField])
-    requires { length residue.old ≡ checks C.code }
-    ensures { residue.new ≡ poly_sub C.SymbolField.field residue.old C.code.target }
-{
-    C::laws();
-    for (power, coefficient) in residue.iter_mut().enumerate() {
-        *coefficient = difference(*coefficient, C::target_residue(power));
-    }
-}
-
 // The syndromes of a slip's row, as many as the bound.
 #[tactic(auto, using(checksum::proofs::Sizes::engine_fits))]
 pub(crate) fn syndromes<C: Checksum>(slip: &Slip, out: &mut [C::CorrectionField])
@@ -46,11 +34,9 @@ pub(crate) fn syndromes<C: Checksum>(slip: &Slip, out: &mut [C::CorrectionField]
 {
     C::laws();
     C::SymbolField::small();
-    let engine = slip.engine::<C>();
-    let mut error = [C::SymbolField::ZERO; 16];
-    let error = &mut error[..C::CHECKSUM_LENGTH];
-    error.copy_from_slice(engine.residue());
-    subtract_target::<C>(error);
+    let mut engine = slip.engine::<C>();
+    engine.subtract_from_target();
+    engine.negate();
     let (first, _) = C::ROOT_EXPONENTS;
-    values_at_powers(error, C::ROOT_GENERATOR, first, out);
+    values_at_powers(engine.residue(), C::ROOT_GENERATOR, first, out);
 }

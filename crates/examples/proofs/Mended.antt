@@ -12,7 +12,7 @@ use Rattle.algebra.proofs.Mended.{mends}
 use Rattle.algebra.proofs.Near.{one_more_doubt_by}
 use Rattle.book.specs.Book.{Book, mark, row}
 use Rattle.book.specs.Calls.{search_fault, listing_of, refused, solves, one_near, none_near}
-use Rattle.book.specs.CodeFaults.{code_refusal}
+use Rattle.book.specs.declared.call_fault.CallFault.TheVariants.{Code as of_code}
 use Rattle.book.specs.Codes.{IsLawful, IsNear, IsSound}
 use Rattle.book.specs.declared.code_fault.CodeFault.TheVariants.{Unfit}
 use Rattle.book.proofs.Numbers.{all_below_all, rows_lawful, near_elements, in_elements, elements, elements_numbers}
@@ -95,7 +95,7 @@ far_unsound n h =
 found_one : (b : Book) (n : List ℕ) → search_fault finish_rows 4 72 b ≡ None → IsNear finish_rows b n → Solves (b, listing_of finish_rows b n)
 found_one b n free near a next f = (same lawful f (solves (one_near free near))).0
 
-found_none : (b : Book) → search_fault finish_rows 4 72 b ≡ None → ((n : List ℕ) → ¬ IsNear finish_rows b n) → Solves (b, refused (code_refusal Unfit))
+found_none : (b : Book) → search_fault finish_rows 4 72 b ≡ None → ((n : List ℕ) → ¬ IsNear finish_rows b n) → Solves (b, refused (of_code Unfit))
 found_none b free far a next f = (same lawful f (solves (none_near free far))).0
 
 pub mended : ExamplesMend

@@ -3,7 +3,7 @@ use Rattle.std.specs.List.{AllByRecursion}
 use Rattle.std.specs.Prelude.{◌≡◌, ℕ, List, [], ◌∷◌, ◌++◌, map}
 use Rattle.book.specs.Book.{Book, undoubted_place, doubted_place, mark}
 use Rattle.book.specs.Calls.{BookAnswer, Follows, solve, refused, listed}
-use Rattle.book.specs.CodeFaults.{code_refusal}
+use Rattle.book.specs.declared.call_fault.CallFault.TheVariants.{Code as of_code}
 use Rattle.book.specs.declared.code_fault.CodeFault.TheVariants.{Unfit}
 use Rattle.book.specs.declared.record.Record.{Record}
 use Rattle.checksum.specs.Finish.{finish_rows}
@@ -27,7 +27,7 @@ abbrev example_record : ℕ → ℕ → Record
 example_record p c = record { place = p; change = c }
 
 abbrev none_near : BookAnswer
-none_near = refused (code_refusal Unfit)
+none_near = refused (of_code Unfit)
 
 -- solve, lent as many records and working entries as the code asks for, answers this and nothing else
 abbrev pub Solves : Book × BookAnswer → Type 0

@@ -1,4 +1,3 @@
-pub mod Faults
 pub mod Elements
 pub mod Powers
 pub mod Cursors

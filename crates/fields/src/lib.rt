@@ -13,7 +13,7 @@ pub mod monoid;
 pub mod powers;
 
 pub use cursor::{Powers, PowersRange};
-pub use fault::{FieldFault, Layer, Refusal};
+pub use fault::FieldFault;
 pub use field::{ExtensionField, Field};
 pub use gf32::Fe32;
 pub use gf1024::Fe1024;

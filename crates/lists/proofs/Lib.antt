@@ -7,6 +7,5 @@ pub mod Values
 pub mod Tabulated
 pub mod Terms
 pub mod Grown
-pub mod Judged
 pub mod Shifted
 pub mod Steps

@@ -5,7 +5,7 @@ use Rattle.algebra.specs.Field.{FieldOn}
 use Rattle.algebra.specs.Poly.{tab, coeff, poly_add, poly_sub}
 use Rattle.algebra.proofs.Poly.{length_poly_add_max, coeff_poly_add, coeff_poly_sub}
 use Rattle.algebra.proofs.Tab.{length_tab, tab_same, tab_coeff}
-use Rattle.lists.specs.Pointwise.{by_entries}
+use Rattle.lists.specs.Steps.Combined.{by_entries}
 
 module _ {A : Type 0} (F : FieldOn A) where
   -- a list from its coefficients

@@ -1,15 +1,8 @@
--- What each refusal of a list tells, and when a call is refused.
-use Rattle.std.specs.Prelude.{ℕ, cond, List, ◌++◌, length, drop, Ok, Err, Result, ◌==◌, nat_lt}
-use Rattle.fields.specs.Faults.{field_refusal}
-use Rattle.fields.specs.declared.fault.Refusal.{Refusal}
-use Rattle.fields.specs.declared.fault.Layer.TheVariants as layers
+-- When a list function is refused, and what the list that it writes then holds.
+use Rattle.std.specs.Prelude.{ℕ, Bool, cond, List, ◌++◌, length, drop, replicate, Ok, Err, Result, ◌==◌, nat_lt}
+use Rattle.algebra.specs.Field.{FieldOn}
 use Rattle.lists.specs.declared.fault.ListFault.{ListFault}
-use Rattle.lists.specs.declared.fault.ListFault.TheVariants.{Empty, Short, Field}
-
-abbrev pub list_refusal : ListFault → Refusal
-list_refusal Empty = record { number = 10; layer = layers.List; place = 0 }
-list_refusal Short = record { number = 11; layer = layers.List; place = 0 }
-list_refusal (Field e) = record { number = (field_refusal e).number; layer = layers.List; place = 0 }
+use Rattle.lists.specs.declared.fault.ListFault.TheVariants.{Empty, Short}
 
 -- x, refused where the shortest list given has no entry
 abbrev pub unless_empty : {X : Type 0} → ℕ → X → Result X ListFault
@@ -23,6 +16,10 @@ admit given needed room = cond (given == 0) (Err Empty) (cond (nat_lt room neede
 abbrev pub lent_after : {A : Type 0} → Result ℕ ListFault → List A → List A → List A
 lent_after (Ok n) new old = new ++ drop n old
 lent_after (Err e) new old = old
+
+-- a list lent to work in, after the call: all ZERO where it was used, else as it was
+abbrev pub zeros_if : {A : Type 0} → FieldOn A → Bool → List A → List A
+zeros_if F used list = cond used (replicate (length list) F.𝟘) list
 
 -- what a call answers that writes a list, and what the lent list then holds
 module _ {A : Type 0} (given : ℕ) (new old : List A) where

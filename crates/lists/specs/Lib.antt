@@ -3,3 +3,4 @@ pub mod Pointwise
 pub mod Lists
 pub mod Roots
 pub mod Registers
+pub mod Steps

@@ -1,9 +1,9 @@
 // Why a list function refuses, and the test that most of them begin with.
 ghost use Rattle.std.specs.Prelude.{◌≡◌, ◌<◌, ◌≤◌, IfOk};
-ghost use Rattle.lists.specs.Faults.{list_refusal, admit};
+ghost use Rattle.lists.specs.Faults.{admit};
 ghost use Rattle.lists.specs.declared.fault.ListFault.TheVariants.{Field as of_field};
 
-use fields::{FieldFault, Layer, Refusal};
+use fields::FieldFault;
 
 /// Why a list is refused.
 #[derive(Clone, Copy, PartialEq, Eq, Debug)]
@@ -16,36 +16,12 @@ pub enum ListFault {
     Field(FieldFault),
 }
 
+/// The field's fault, whole.
 impl From<FieldFault> for ListFault {
     ghost from_gives = { λ e r. r ≡ of_field e };
 
     fn from(fault: FieldFault) -> ListFault {
         ListFault::Field(fault)
-    }
-}
-
-/// What the list's refusal tells: a field's keeps its number.
-impl From<ListFault> for Refusal {
-    ghost from_gives = { λ fault r. r ≡ list_refusal fault };
-
-    fn from(fault: ListFault) -> Refusal {
-        match fault {
-            ListFault::Empty => Refusal {
-                number: 10,
-                layer: Layer::List,
-                place: 0,
-            },
-            ListFault::Short => Refusal {
-                number: 11,
-                layer: Layer::List,
-                place: 0,
-            },
-            ListFault::Field(fault) => Refusal {
-                number: Refusal::from(fault).number,
-                layer: Layer::List,
-                place: 0,
-            },
-        }
     }
 }
 

@@ -3,7 +3,8 @@ ghost use Rattle.std.specs.Prelude.{◌≡◌, ◌+◌, ◌≤◌, min, ◌++◌
 ghost use Rattle.algebra.specs.Field.{pow};
 ghost use Rattle.algebra.specs.Poly.{tab, coeff, poly_add, poly_sub};
 ghost use Rattle.lists.specs.Faults.{answer_count, answer_list};
-ghost use Rattle.lists.specs.Pointwise.{Computes, by_entries, pointwise};
+ghost use Rattle.lists.specs.Pointwise.{pointwise};
+ghost use Rattle.lists.specs.Steps.Combined.{Computes, by_entries};
 
 use crate::fault::{ListFault, admit};
 use fields::arithmetic::difference;

@@ -1,9 +1,10 @@
 // Shortest linear feedback shift registers, by Massey's six steps. The connection list grows at the front of the answer,
 // and the list before the last growth is at the front of another; a third has the copy while the two change places.
-ghost use Rattle.std.specs.Prelude.{◌≡◌, ◌+◌, ◌*◌, ◌<◌, ◌≤◌, ◌++◌, length, take, drop};
+ghost use Rattle.std.specs.Prelude.{◌≡◌, ◌+◌, ◌*◌, ◌<◌, ◌≤◌, ◌++◌, length, take, drop, is_ok};
 ghost use Rattle.algebra.specs.Poly.{coeff};
 ghost use Rattle.algebra.specs.Register.{updated_list, register, IsShortest};
-ghost use Rattle.lists.specs.Registers.{register_count, answer_after, second_after, connection_list};
+ghost use Rattle.lists.specs.Faults.{lent_after, zeros_if};
+ghost use Rattle.lists.specs.Registers.{register_count, connection_list};
 
 use crate::fault::ListFault;
 use crate::fieldvec::clear;
@@ -92,10 +93,11 @@ pub fn berlekamp_massey<F: Field>(
     answer: &mut [F],
     second: &mut [F],
 ) -> Result<usize, ListFault>
-    ensures number { result ≡ register_count F.field s.now answer.old second.old }
-    ensures list { answer.new ≡ answer_after F.field s.now answer.old second.old }
-    ensures after { second.new ≡ second_after F.field s.now answer.old second.old }
-    ensures shortest { IsShortest F.field (coeff F.field s.now) (length s.now) (register F.field (coeff F.field s.now) (length s.now)).L (connection_list F.field s.now) }
+    ensures number { result ≡ register_count F.field s.now (length answer.old) (length second.old) }
+    ensures list { answer.new ≡ lent_after result (connection_list F.field s.now) answer.old }
+    ensures after { second.new ≡ zeros_if F.field (is_ok result) second.old }
+    ensures shortest { IsShortest F.field (coeff F.field s.now) (length s.now)
+        (register F.field (coeff F.field s.now) (length s.now)).L (connection_list F.field s.now) }
 {
     let n = s.len();
     if n == 0 {

@@ -2,11 +2,12 @@
 // Where five are doubted, there are too few left to mend it from, and it is refused.
 #![tactic(auto)]
 
-use book::{BLANK, Record};
+use book::{BLANK, CallFault, Record};
 use checksum::Finish;
 use correction::lengths::{MOST_RECORDS, MOST_WORK};
 use correction::settle;
-use fields::{Fe32, Refusal};
+use fields::{Fe32, Field};
+use sheet::refusal_number;
 use slip::Slip;
 use std::io;
 use std::io::Write;
@@ -19,7 +20,7 @@ fn mend(
     row: &[u8],
     doubted: &[usize],
     records: &mut [Record],
-) -> Result<(usize, usize), Refusal> {
+) -> Result<(usize, usize), CallFault> {
     for symbol in row {
         slip.write(*symbol)?;
     }
@@ -45,7 +46,7 @@ fn show(out: &mut impl Write, doubted: &[usize]) -> io::Result<()> {
             }
             writeln!(out)
         }
-        Err(Refusal { number, .. }) => writeln!(out, "refused {number}"),
+        Err(fault) => writeln!(out, "refused {}", refusal_number(fault)),
     }
 }
 

@@ -14,6 +14,7 @@ use fields::Field;
 use replay::commas::WithCommas;
 use replay::lines::replay;
 use replay::outcomes::write_outcome;
+use sheet::refusal_number;
 use slip::Slip;
 use std::alloc::Global;
 use std::fmt;
@@ -98,14 +99,14 @@ fn answer_by<C: Checksum>(heap: Global, slip: &mut Slip) -> anyhow::Result<Strin
     let mut records = [BLANK; RECORDS];
     let outcome = solve::<C>(slip, &mut records, work.as_mut_slice());
     let solved = listed(outcome, &records);
-    let list = write_outcome(heap, solved)?;
+    let list = write_outcome(heap, solved.map_err(refusal_number))?;
     let symbols = slip.len();
     let original = match solved {
         Ok(listing) => ByPosition { listing, symbols }.to_string(heap)?,
         Err(_) => String::from_str(heap, "none")?,
     };
     let settled = settle::<C>(slip, &mut records, work.as_mut_slice());
-    if write_outcome(heap, listed(settled, &records))?.as_str() != list.as_str() {
+    if write_outcome(heap, listed(settled, &records).map_err(refusal_number))?.as_str() != list.as_str() {
         return Err(anyhow!("a settle that lists otherwise than a solve"));
     }
     let row = match settled {

@@ -14,7 +14,7 @@ use Rattle.book.specs.Calls.{BookCall, Follows, write, blank, doubt, wipe, seal,
 use Rattle.algebra.specs.NumericCode.{NumericCode}
 use Rattle.book.specs.Story.{Leads, IsStory}
 use Rattle.book.specs.declared.code_fault.CodeFault.{CodeFault}
-use Rattle.fields.specs.declared.fault.Refusal.{Refusal}
+use Rattle.book.specs.declared.call_fault.CallFault.{CallFault}
 use Rattle.script.specs.declared.script.Answer.{Answer}
 use Rattle.script.specs.declared.script.Answer.TheVariants.{Done, Listed}
 use Rattle.script.specs.declared.script.Call.{Call}
@@ -31,12 +31,12 @@ book_call codes (Solve k lent) = solve (codes k) lent.records lent.working
 book_call codes (Settle k lent) = settle (codes k) lent.records lent.working
 
 abbrev pub Reply : Type 0
-Reply = Result Answer Refusal
+Reply = Result Answer CallFault
 
 abbrev pub book_answer : Reply → BookAnswer
 book_answer (Ok Done) = done
 book_answer (Ok (Listed l)) = listed l.records (length l.records) l.nonzero
-book_answer (Err why) = refused why
+book_answer (Err fault) = refused fault
 
 -- steps and replies side by side, as far as there are both; only those of slip i
 abbrev pub calls_on : {K : Type 0} → (K → NumericCode) → ℕ → List (Step K) → List Reply → List (BookCall × BookAnswer)

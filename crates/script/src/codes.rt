@@ -2,7 +2,7 @@
 // what its values name.
 ghost use Rattle.std.specs.Prelude.{◌≡◌, length, replicate};
 ghost use Rattle.book.specs.Calls.{Follows, plain_answer, seal, solve, settle};
-ghost use Rattle.book.specs.CodeFaults.{code_refusal};
+ghost use Rattle.book.specs.declared.call_fault.CallFault.TheVariants.{Code as of_code};
 ghost use Rattle.algebra.specs.NumericCode.{NumericCode};
 ghost use Rattle.book.specs.Codes.{IsLawful};
 ghost use Rattle.correction.specs.Answers.{search_answer};
@@ -51,7 +51,7 @@ pub trait CodeSet: Copy {
 
     /// Seals a slip by the code.
     fn seal(self, slip: &mut Slip) -> Result<(), CodeFault>
-        ensures { Follows slip.old (seal (codes self)) (plain_answer code_refusal result) slip.new };
+        ensures { Follows slip.old (seal (codes self)) (plain_answer of_code result) slip.new };
 
     /// Lists how the row of a slip becomes the row near it, by the code, w elements of the workspace being lent to work in.
     fn solve(

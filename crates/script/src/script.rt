@@ -1,6 +1,6 @@
 // What is asked of slips, and what they answer.
 use crate::listing::Listing;
-use fields::Refusal;
+use book::CallFault;
 
 /// How much memory a call is lent.
 #[derive(Clone, Copy)]
@@ -47,4 +47,4 @@ pub enum Answer {
 }
 
 /// What a call answers. Where it is refused, the slip is as it was.
-pub type Reply = Result<Answer, Refusal>;
+pub type Reply = Result<Answer, CallFault>;

@@ -7,7 +7,7 @@ use Rattle.sheet.specs.Columns.{column}
 use Rattle.sheet.specs.OutputLines.{output_line}
 use Rattle.sheet.specs.declared.output_line.Report.{Report}
 use Rattle.sheet.proofs.ColumnSteps.{length_column}
-use Rattle.sheet.specs.Shown.{ShowsLine, Whole, report_of}
+use Rattle.sheet.specs.Shown.{ShowsLine, Whole, outcome_at, report_of}
 use Rattle.lines.specs.Streams.{AnswersAll, Answers}
 
 pub on_ok : {X E P Q : Type 0} → (P → Q) → (r : Result X E) → OnOk r P → OnOk r Q
@@ -27,7 +27,7 @@ length_output_line told =
 
 module _ (C : NumericCode) where
   length_shown : (number : ℕ) (line text : List ℕ) → ShowsLine C number line text → length text ≡ 31
-  length_shown number line text s = ap length s.2 ∙ length_output_line (report_of number s.0)
+  length_shown number line text s = ap length s.2 ∙ length_output_line (report_of number (outcome_at number s.0))
 
   length_answers : (lines : List (List ℕ)) (number : ℕ) (bytes : List ℕ) → Answers (ShowsLine C) number lines bytes → length bytes ≡ 31 * length lines
   length_answers [] number bytes a = ap length a

@@ -5,7 +5,7 @@ use Rattle.std.proofs.lemmas.Bool.{eqb-true}
 use Rattle.book.specs.Book as book
 use Rattle.book.specs.Book.{Book, answer_of, book_after, fresh_book}
 use Rattle.book.specs.Calls.{BookCall, Follows, plain_answer, done, wipe, write, blank, writes, blanks, wipes}
-use Rattle.book.specs.SlipFaults.{slip_refusal}
+use Rattle.book.specs.declared.call_fault.CallFault.TheVariants.{Slip as of_slip}
 use Rattle.book.specs.Story.{Leads}
 use Rattle.book.specs.declared.slip_fault.SlipFault.{SlipFault}
 use Rattle.sheet.specs.Pieces.{Part, group, remark, pieces}
@@ -36,12 +36,12 @@ module _ (case : Case) (place byte : ℕ) (bytes : List ℕ) (b last : Book) (ne
   abbrev After : Result Book ByteFault → Type 0
   After taken = and_then (and_then (refused_as (fault_at place) taken) (book_after_bytes true case (place + 1) bytes)) next ≡ Ok last
 
-  call_leads : (call : BookCall) (called : Result Book SlipFault) → Follows b call (plain_answer slip_refusal called) (book_after b called)
+  call_leads : (call : BookCall) (called : Result Book SlipFault) → Follows b call (plain_answer of_slip called) (book_after b called)
       → After (refused_as OnSlip called) → Leads b (all_done (call ∷ (calls_of_bytes bytes ++ calls))) last
   call_leads call (Ok then) follows e = (then, follows, rest then e)
   call_leads call (Err fault) follows e = never _ last e
 
-  write_leads : (v : ℕ) (other : Bool) (called : Result Book SlipFault) → Follows b (write v) (plain_answer slip_refusal called) (book_after b called)
+  write_leads : (v : ℕ) (other : Bool) (called : Result Book SlipFault) → Follows b (write v) (plain_answer of_slip called) (book_after b called)
       → After (cond other (Err OtherCase) (refused_as OnSlip called)) → Leads b (all_done (write v ∷ (calls_of_bytes bytes ++ calls))) last
   write_leads v true called follows e = never _ last e
   write_leads v false called follows e = call_leads (write v) called follows e

@@ -1,9 +1,9 @@
 -- What the program `seal` writes for a boat's line: the sealed row, or the refusal.
 use Rattle.std.specs.Prelude.{◌≡◌, ℕ, List, [], ◌∷◌, ◌++◌, decimal, Ok, Err, Result}
-use Rattle.fields.specs.declared.fault.Refusal.{Refusal}
-use Rattle.sheet.specs.Faults.{line_refusal}
+use Rattle.sheet.specs.Refusals.{line_refusal}
 use Rattle.sheet.specs.Sealed.{sealed_line}
 use Rattle.sheet.specs.declared.fault.LineFault.{LineFault}
+use Rattle.sheet.specs.declared.refusal.Refusal.{Refusal}
 
 -- a row, and the newline that ends its line
 abbrev pub with_newline : List ℕ → List ℕ

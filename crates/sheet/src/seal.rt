@@ -6,9 +6,9 @@ ghost use Rattle.lines.specs.Streams.{AnswersAll, Streams};
 ghost use Rattle.sheet.specs.Sealed.{sealed_line};
 ghost use Rattle.sheet.specs.Written.{SealedText, refusal_text, sealed_text, with_newline};
 
+use crate::refusal::Refusal;
 use crate::sealed::seal_line;
 use arrayvec::ArrayVec;
-use fields::Refusal;
 use itoa::Buffer;
 use lines::{Clerk, LineAhead, StreamError, answer_lines, write_text};
 use std::alloc::Global;

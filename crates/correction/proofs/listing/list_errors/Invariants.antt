@@ -3,8 +3,9 @@ use Rattle.algebra.specs.Decode.{root_position}
 use Rattle.algebra.specs.Field.{HasOrder}
 use Rattle.correction.specs.Steps.Changes.{HasChangeAt}
 use Rattle.correction.specs.Steps.Listing.{IsOnRow}
+use Rattle.correction.proofs.Indices.{remaining_roots}
 use Rattle.correction.proofs.Onward.{Onward}
-use Rattle.lists.specs.Roots.{remaining_roots, roots}
+use Rattle.lists.specs.Roots.{roots}
 use Rattle.correction.proofs.listing.list_errors.Given as goal
 
 abbrev pub invariant-loop-index : goal.invariant-loop-index

@@ -1,6 +1,6 @@
 use Rattle.std.proofs.Common.{◌≡◌, min, max, ◌++◌, length, take, drop, sym, ap, ◌∙◌, ap₂, arith, length-take}
 use Rattle.algebra.specs.Poly.{coeff}
-use Rattle.lists.specs.Pointwise.{by_entries}
+use Rattle.lists.specs.Steps.Combined.{by_entries}
 use Rattle.lists.proofs.Places.{length_by_entries}
 use Rattle.lists.proofs.Filled.{filled_more, filled_whole, refuses, refuses_list, accepts, accepts_list}
 use Rattle.lists.proofs.fieldvec.combined.Goals as goal

@@ -1,5 +1,5 @@
 use Rattle.algebra.specs.Poly.{coeff}
-use Rattle.lists.specs.Pointwise.{Computes}
+use Rattle.lists.specs.Steps.Combined.{Computes}
 use Rattle.lists.proofs.Filled.{Filled}
 use Rattle.lists.proofs.fieldvec.combined.Given as goal
 
