@@ -62,7 +62,6 @@ remaining_roots F p c = filter (is_root F p c.base) (range_with_len c.next (c.or
 
 -- A cursor is passed a list that has entries.
 module _ {A : Type 0} (F : FieldOn A) (p : List A) (some : 0 < length p) (c : Cursor A) where
-
   answered : {r : Result (Option ℕ) ListFault} {o : Option ℕ} → r ≡ unless_empty (length p) (next_root F p c) → r ≡ Ok o → o ≡ next_root F p c
   answered answer is = let given = asked_some (length p) (next_root F p c) some in cc
 
