@@ -78,8 +78,7 @@ one_less c [] vs apart = (apart.1, λ m. all_at (λ q. ¬ (c.place ≡ q)) (reco
 one_less c (u ∷ us) vs apart =
     let rest = one_less c us vs apart.1 in
     let away : (d : Record) → Mem d (us ++ c ∷ vs) → ¬ (u.place ≡ d.place) =
-    λ d m. all_at (λ q. ¬ (u.place ≡ q)) (record_places (us ++ c ∷ vs)) apart.0 (mem_place m) in
-    (
+    λ d m. all_at (λ q. ¬ (u.place ≡ q)) (record_places (us ++ c ∷ vs)) apart.0 (mem_place m) in (
       (all_from (λ q. ¬ (u.place ≡ q)) (record_places (us ++ vs)) (λ q m. let d = place_mem (us ++ vs) m in λ e. away d.0 (mem_more c us vs d.1) (e ∙ sym d.2)), rest.0),
       λ m. elim (mem_cases m) [ inl e ↦ away c (mem_middle c us vs) e | inr k ↦ rest.1 k ],
     )

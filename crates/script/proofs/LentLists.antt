@@ -1,7 +1,7 @@
 -- A search that is lent 216 elements to work in answers as one that is lent more.
 --   found_on_workspace    a search at the front of a workspace
 --   left_is, left_clear   what it leaves there
-use Rattle.std.proofs.Common.{◌≡◌, ℕ, zero, suc, ◌+◌, ◌*◌, ◌≤◌, min, ltb, List, ◌∷◌, ◌++◌, length, take, drop, replicate, None, Some, Ok, Err, Option, Result, sym, refl, ap, ◌∙◌, ⊎_elim, arith}
+use Rattle.std.proofs.Common.{◌≡◌, ℕ, zero, suc, ◌+◌, ◌*◌, ◌≤◌, min, ltb, List, ◌∷◌, ◌++◌, length, take, drop, replicate, Ok, Err, Option, Result, sym, refl, ap, ◌∙◌, ⊎_elim, arith}
 use Rattle.std.proofs.lemmas.List.{length-take, take-append-drop}
 use Rattle.std.proofs.lemmas.Bool.{lt-ltb, le-ltb, cases_lt}
 use Rattle.algebra.specs.Field.{FieldOn}
@@ -13,7 +13,6 @@ use Rattle.book.specs.declared.code_fault.CodeFault.TheVariants.{Short, Long, Re
 use Rattle.correction.specs.Answers.{FindsNear, workspace_after, zeros}
 use Rattle.correction.specs.declared.found.Found.{Found}
 use Rattle.script.specs.Script.{workspace_left}
-use Rattle.script.specs.declared.codes.Workspace.{Workspace}
 
 -- what is asked is at most the cap: lending the cap is lending enough, or too little, alike
 enough : (lent most asked cap : ℕ) → asked ≤ cap → most ≡ min lent cap → ltb lent asked ≡ ltb most asked

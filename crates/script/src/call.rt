@@ -40,15 +40,11 @@ fn answer<K: CodeSet>(slip: &mut Slip, call: Call<K>, workspace: &mut K::Workspa
 }
 
 // A solve: the search alone.
-fn solve_step<K: CodeSet>(
-    slip: &Slip,
-    code: K,
-    lent: Lent,
-    workspace: &mut K::Workspace,
-) -> Reply
+fn solve_step<K: CodeSet>(slip: &Slip, code: K, lent: Lent, workspace: &mut K::Workspace) -> Reply
     ensures follows { Follows slip.now (solve (K.codes code) lent.records lent.working)
         (book_answer result) slip.now }
-    ensures working { workspace.new ≡ workspace_after_reply (K.cleared code lent.working) result workspace.old }
+    ensures working { workspace.new
+        ≡ workspace_after_reply (K.cleared code lent.working) result workspace.old }
 {
     let found = code.find(slip, lent, workspace)?;
     Ok(Answer::Listed(Listing::new(found.pattern, found.nonzero)))
@@ -63,7 +59,8 @@ fn settle_step<K: CodeSet>(
 ) -> Reply
     ensures follows { Follows slip.old (settle (K.codes code) lent.records lent.working)
         (book_answer result) slip.new }
-    ensures working { workspace.new ≡ workspace_after_reply (K.cleared code lent.working) result workspace.old }
+    ensures working { workspace.new
+        ≡ workspace_after_reply (K.cleared code lent.working) result workspace.old }
 {
     let found = code.find(slip, lent, workspace)?;
     let listing = Listing::new(found.pattern, found.nonzero);

@@ -53,7 +53,8 @@ pub trait CodeSet: Copy {
 
     /// A search leaves a clear workspace clear.
     fn stays_clear()
-        ensures { (k : Self) (w : ℕ) (space : Self.Workspace) → clear space → clear (cleared k w space) };
+        ensures { (k : Self) (w : ℕ) (space : Self.Workspace)
+            → clear space → clear (cleared k w space) };
 
     /// A clear workspace.
     fn workspace() -> Self::Workspace
@@ -71,7 +72,8 @@ pub trait CodeSet: Copy {
         workspace: &mut Self::Workspace,
     ) -> Result<Found, CodeFault>
         ensures found { FindsNear (codes self) lent.records lent.working slip.now result }
-        ensures working { workspace.new ≡ workspace_left (cleared self lent.working) result workspace.old };
+        ensures working { workspace.new
+            ≡ workspace_left (cleared self lent.working) result workspace.old };
 }
 
 impl<C: Checksum> CodeSet for Single<C> {
@@ -82,7 +84,7 @@ impl<C: Checksum> CodeSet for Single<C> {
     ghost clear = { λ d. d.work ≡ replicate 216 C.CorrectionField.field.𝟘 };
 
     ghost cleared = { λ _ w d. record {
-        work = zeros_if C.CorrectionField.field true (take (min w 216) d.work) ++ drop (min w 216) d.work
+      work = zeros_if C.CorrectionField.field true (take (min w 216) d.work) ++ drop (min w 216) d.work;
     } };
 
     fn laws() {
@@ -113,7 +115,11 @@ impl<C: Checksum> CodeSet for Single<C> {
         workspace: &mut Workspace<C::CorrectionField>,
     ) -> Result<Found, CodeFault> {
         C::laws();
-        find::<C>(slip, lent.records, &mut workspace.work[..lent.working.min(216)])
+        find::<C>(
+            slip,
+            lent.records,
+            &mut workspace.work[..lent.working.min(216)],
+        )
     }
 }
 

@@ -7,6 +7,6 @@ pub mod listing;
 pub mod run;
 pub mod script;
 
-pub use codes::{CodeSet, Workspace, Single};
+pub use codes::{CodeSet, Single, Workspace};
 pub use listing::Listing;
 pub use script::{Answer, Call, Lent, Reply, Step};

@@ -1,6 +1,6 @@
-use Rattle.std.proofs.Common.{◌≤◌, length, rules, subst, sym}
+use Rattle.std.proofs.Common.{◌≤◌, rules, subst, sym}
 use Rattle.algebra.specs.NumericCode.{NumericCode}
-use Rattle.script.proofs.LentLists.{found_on_workspace, left_list}
+use Rattle.script.proofs.LentLists.{found_on_workspace}
 use Rattle.script.proofs.codes.SingleCodeSet.find.Goals as goal
 
 pub returns-clause-found : goal.returns-clause-found
