@@ -9,4 +9,5 @@ with_byte_before byte (line ∷ lines) = (byte ∷ line) ∷ lines
 
 abbrev pub lines_of : List ℕ → List (List ℕ)
 lines_of [] = []
-lines_of (byte ∷ bytes) = cond (byte == 10) ([] ∷ lines_of bytes) (with_byte_before byte (lines_of bytes))
+lines_of (byte ∷ bytes) =
+    cond (byte == 10) ([] ∷ lines_of bytes) (with_byte_before byte (lines_of bytes))

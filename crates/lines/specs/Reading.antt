@@ -9,4 +9,5 @@ IsOver remaining left = IsAtEnd remaining ⊎ (left ≡ 0)
 
 abbrev pub ReadsLine : Option (List ℕ) → ℕ → Bool → List ℕ → List ℕ → Type 0
 ReadsLine remaining left true line bytes = All (λ byte. byte ≢ 10) line × (bytes ≡ line ++ 10 ∷ [])
-ReadsLine remaining left false line bytes = All (λ byte. byte ≢ 10) line × (bytes ≡ line) × IsOver remaining left
+ReadsLine remaining left false line bytes =
+    All (λ byte. byte ≢ 10) line × (bytes ≡ line) × IsOver remaining left

@@ -2,7 +2,7 @@
 ghost use Rattle.std.specs.Prelude.{◌≡◌, ℕ, ◌≤◌, List, length, take, IfSome, OnOk};
 ghost use Rattle.std.specs.Io.KnownBytes.{Appends};
 ghost use Rattle.lines.specs.Lines.{lines_of};
-ghost use Rattle.lines.specs.Streams.{AnswersAll, Streams, WritesAnswer};
+ghost use Rattle.lines.specs.Streams.{Answering, AnswersAll, Streams, WritesAnswer};
 
 use crate::fault::StreamError;
 use crate::reading::{LineAhead, read_line};
@@ -16,11 +16,12 @@ pub const INPUT_BYTES: usize = 65_536;
 /// What answers lines, each by itself.
 pub trait Clerk {
     // The texts that may answer a line with this number.
-    ghost answers: { ℕ → List ℕ → List ℕ → Type 0 };
+    ghost answers: { Answering };
 
     /// Writes the answer of a line, whose number is given. Where that fails, a front of the answer was written.
     fn answer<W: Write>(number: usize, line: &[u8], writer: &mut W) -> io::Result<()>
-        ensures { WritesAnswer answers number line.now (W.contents writer.old) (W.contents writer.new) result };
+        ensures { WritesAnswer answers number line.now
+            (W.contents writer.old) (W.contents writer.new) result };
 }
 
 /// Reads lines, at most 65,536 bytes of them, and writes the answer of each before it reads on, and flushes before it has to wait
@@ -37,7 +38,8 @@ pub fn answer_lines<C: Clerk, R: Read + LineAhead, W: Write>(
 
     // On success what was read is the first 65,536 bytes.
     ensures all { OnOk result (IfSome (R.remaining reader.old) (λ input.
-        AnswersAll C.answers (lines_of (take 65536 input)) (W.contents writer.old) (W.contents writer.new))) }
+        AnswersAll C.answers (lines_of (take 65536 input))
+        (W.contents writer.old) (W.contents writer.new))) }
 {
     let mut line = Vec::new(alloc);
     let mut left = INPUT_BYTES;
@@ -67,7 +69,8 @@ fn answer_line<C: Clerk, W: Write>(
     waits: bool,
     writer: &mut W,
 ) -> io::Result<()>
-    ensures { WritesAnswer C.answers number line.now (W.contents writer.old) (W.contents writer.new) result }
+    ensures { WritesAnswer C.answers number line.now
+        (W.contents writer.old) (W.contents writer.new) result }
 {
     C::answer(number, line, writer)?;
     if waits { writer.flush() } else { Ok(()) }

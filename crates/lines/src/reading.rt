@@ -25,7 +25,8 @@ impl<R: Read, A: Allocator> LineAhead for BufReader<R, A> {
 pub fn read_line<R: Read>(reader: &mut R, left: &mut usize, line: &mut Vec<u8>) -> io::Result<bool>
     ensures { (bytes : List ℕ) × Consumes (R.remaining reader.old) (R.remaining reader.new) bytes
         × (left.new + length bytes ≡ left.old)
-        × MatchResult result (λ more. ReadsLine (R.remaining reader.new) left.new more line.new.items bytes)
+        × MatchResult result
+        (λ more. ReadsLine (R.remaining reader.new) left.new more line.new.items bytes)
         (λ _. All (λ byte. byte ≢ 10) bytes) }
 {
     line.clear();
@@ -44,7 +45,8 @@ pub fn read_line<R: Read>(reader: &mut R, left: &mut usize, line: &mut Vec<u8>) 
 
 /// Whether the reader has another byte, which is read if so.
 pub fn has_more<R: Read>(reader: &mut R) -> io::Result<bool>
-    ensures { IfOk result (λ more. IfSome (R.remaining reader.old) (λ rest. more ≡ nat_lt 0 (length rest))) }
+    ensures { IfOk result (λ more. IfSome (R.remaining reader.old)
+        (λ rest. more ≡ nat_lt 0 (length rest))) }
 {
     Ok(next_byte(reader)?.is_some())
 }

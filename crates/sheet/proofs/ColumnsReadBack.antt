@@ -30,7 +30,7 @@ spaces_skipped : (width : ℕ) (bytes : List ℕ) → read_column (front width 0
 spaces_skipped zero bytes = refl
 spaces_skipped (suc width) bytes = ap read_column (append_assoc (front width 0) (32 ∷ []) bytes) ∙ spaces_skipped width (32 ∷ bytes)
 
--- what stands before a digit says the number before it
+-- what comes before a digit says the number before it
 front_says : (width n d : ℕ) (bytes : List ℕ) → n < 10 ^ width → read_column (front width n ++ (48 + d) ∷ bytes) ≡ decimal_after n ((48 + d) ∷ bytes)
 front_says zero n d bytes h =
     let none : n ≡ 0 = omega (arith, pow-zero 10) in

@@ -1,4 +1,4 @@
--- What stands at the front of a line is its first piece, and what follows has the others.
+-- The first piece of a line is at its front, and what follows has the others.
 use Rattle.std.proofs.Common.{◌≡◌, ℕ, suc, ◌+◌, Bool, true, false, eqb, List, [], ◌∷◌, ◌++◌, length, take, drop, sym, refl, ap, ◌∙◌, subst, append_assoc, append-nil, arith}
 use Rattle.std.proofs.lemmas.Bool.{both_ways, eqb-true, eq-eqb, ne_eqb, or_from}
 use Rattle.std.proofs.lemmas.List.{length_push, nil_from_length}
@@ -56,7 +56,7 @@ first_group place byte bytes s =
     goes_on (byte ∷ bytes) [] place
     ∙ simp s (ap (λ (n : ℕ). group place (byte ∷ take (leading_group bytes) bytes) ∷ pieces_from n (drop (leading_group bytes) bytes)) (omega arith))
 
--- behind the spaces at the front stands no space
+-- after the spaces at the front comes no space
 no_space_one : (byte : ℕ) (bytes : List ℕ) (space : Bool) (first : ℕ) (others : List ℕ) → eqb byte 32 ≡ space → (drop (leading_spaces bytes) bytes ≡ first ∷ others → eqb first 32 ≡ false) → drop (leading_spaces (byte ∷ bytes)) (byte ∷ bytes) ≡ first ∷ others → eqb first 32 ≡ false
 no_space_one byte bytes true first others s more e = more (simp s at e)
 no_space_one byte bytes false first others s more e = let f = simp s at e in cc

@@ -1,8 +1,7 @@
--- What stands at the front of a list, up to a place that a search finds.
+-- The front of a list, up to a place that a search finds.
 use Rattle.std.proofs.Common.{◌≡◌, ℕ, ◌+◌, Bool, true, false, cond, not, List, [], ◌∷◌, length, take, unwrap_or, refl, one-add, arith}
-use Rattle.std.specs.List.{before_first, position, position_or_len}
+use Rattle.std.specs.List.{position, position_or_len}
 use Rattle.std.proofs.lemmas.Bool.Decides.{nat_tests}
-use Rattle.std.proofs.lemmas.List.Recursion.{same_from_clauses}
 use Rattle.std.proofs.lemmas.List.Sums.{prefix_len-le-length}
 
 -- the place that a search found, and the end where it found none
@@ -14,7 +13,3 @@ place_or_end p xs =
 pub one_before : (p : Bool) (x n : ℕ) (xs : List ℕ) → take (cond (not p) (1 + n) 0) (x ∷ xs) ≡ cond p [] (x ∷ take n xs)
 one_before true x n xs = refl
 one_before false x n xs = simp one-add
-
--- a word that cuts a list off at the first byte of one kind, as the library's does
-pub is_before_first : (F : List ℕ → List ℕ) (p : ℕ → Bool) → F [] ≡ [] → ((x : ℕ) (xs : List ℕ) → F (x ∷ xs) ≡ cond (p x) [] (x ∷ F xs)) → (xs : List ℕ) → F xs ≡ before_first p xs
-is_before_first F p none more xs = same_from_clauses F (before_first p) (λ x front. cond (p x) [] (x ∷ front)) none more (λ x ys. one_before (p x) x (position_or_len p ys) ys) xs

@@ -1,10 +1,10 @@
--- Columns that are put into a text one behind another.
+-- Columns that are put into a text one after another.
 use Rattle.std.proofs.Common.{◌≡◌, ℕ, ◌+◌, List, ◌++◌, length, take, drop, sym, ap, ◌∙◌, append_assoc, arith}
 use Rattle.std.proofs.lemmas.List.{drop_at, drop-drop, length-append, take_at}
 use Rattle.sheet.specs.Columns.{column}
 use Rattle.sheet.proofs.ColumnSteps.{length_column}
 
--- the next column, behind what is done
+-- the next column, after what is done
 pub next_column : (start done before after : List ℕ) (at width n : ℕ) → before ≡ done ++ drop at start → length done ≡ at → after ≡ take at before ++ (column width n ++ drop (at + width) before) → after ≡ (done ++ column width n) ++ drop (at + width) start
 next_column start done before after at width n e l p =
     let rest = drop at start in

@@ -29,7 +29,8 @@ unspaced bytes = filter (λ byte. not (byte == 32)) bytes
 abbrev pub Bars : Case → ℕ → ℕ → ByteFault → Type 0
 Bars case held byte OutsideSet = (byte ≢ 32) × (is_character byte ≡ false)
 Bars case held byte OtherCase = (is_character byte ≡ true) × (is_other_case case byte ≡ true)
-Bars case held byte (OnSlip fault) = (is_character byte ≡ true) × (is_other_case case byte ≡ false) × (held ≡ 89) × (fault ≡ Full)
+Bars case held byte (OnSlip fault) =
+    (is_character byte ≡ true) × (is_other_case case byte ≡ false) × (held ≡ 89) × (fault ≡ Full)
 
 pub record IsBarred (case : Case) (groups : List ℕ) (fault : LineFault) : Type 0 where
   pub place : ℕ

@@ -12,7 +12,8 @@ alphabet = codes "qpzry9x8gf2tvdw0s3jn54khce6mua7l"
 
 -- the case of a letter
 abbrev pub letter_case : ℕ → Option Case
-letter_case byte = cond (is_ascii_lowercase byte) (Some Lower) (cond (is_ascii_uppercase byte) (Some Upper) None)
+letter_case byte =
+    cond (is_ascii_lowercase byte) (Some Lower) (cond (is_ascii_uppercase byte) (Some Upper) None)
 
 -- a small letter in a given case
 abbrev pub in_case : Case → ℕ → ℕ
@@ -26,8 +27,10 @@ symbol_from n (c ∷ cs) byte = cond (byte == c) (Some (Symbol n)) (symbol_from 
 
 -- what a byte says: a question mark is a case of its own, a letter says the same in either case
 abbrev pub read_character : ℕ → Option Character
-read_character byte = cond (byte == 63) (Some QuestionMark) (symbol_from 0 alphabet (to_ascii_lowercase byte))
+read_character byte =
+    cond (byte == 63) (Some QuestionMark) (symbol_from 0 alphabet (to_ascii_lowercase byte))
 
 -- how a symbol is written, none from 32 on
 abbrev pub write_character : Case → ℕ → Option ℕ
-write_character case symbol = cond (nat_lt symbol 32) (Some (in_case case (slice_index alphabet symbol))) None
+write_character case symbol =
+    cond (nat_lt symbol 32) (Some (in_case case (slice_index alphabet symbol))) None

@@ -17,7 +17,8 @@ is_digit byte = nat_le 48 byte && nat_le byte 57
 -- the number that digits say after those of n; none if there is another byte
 abbrev pub decimal_after : ℕ → List ℕ → Option ℕ
 decimal_after n [] = Some n
-decimal_after n (byte ∷ bytes) = cond (is_digit byte) (decimal_after (n * 10 + (byte - 48)) bytes) None
+decimal_after n (byte ∷ bytes) =
+    cond (is_digit byte) (decimal_after (n * 10 + (byte - 48)) bytes) None
 
 -- spaces, then the digits of a number; none if there is another byte, or no digit
 abbrev pub read_column : List ℕ → Option ℕ

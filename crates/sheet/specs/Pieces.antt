@@ -15,7 +15,8 @@ abbrev pub pieces_after : ℕ → List ℕ → List ℕ → List Part
 pieces_after place front [] = with_group_before place front []
 pieces_after place front (byte ∷ bytes) =
     cond (byte == 47) (with_group_before place front (remark (place + length front + 1) bytes ∷ []))
-    (cond (byte == 32) (with_group_before place front (pieces_after (place + length front + 1) [] bytes))
+    (cond (byte == 32)
+    (with_group_before place front (pieces_after (place + length front + 1) [] bytes))
     (pieces_after place (front ++ byte ∷ []) bytes))
 
 abbrev pub pieces_from : ℕ → List ℕ → List Part

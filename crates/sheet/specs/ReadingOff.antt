@@ -14,7 +14,9 @@ within_day sail tenths = cond (nat_le tenths 863999) (Ok (sail, tenths)) (Err La
 -- four symbols for the sail number and four for the tenths; the four checks are not looked at
 abbrev pub read_off : List ℕ → Result (ℕ × ℕ) LineFault
 read_off symbols =
-    cond (length symbols == 12) (within_day (base_32_after 0 (take 4 symbols)) (base_32_after 0 (take 4 (drop 4 symbols)))) (Err SymbolCount)
+    cond (length symbols == 12)
+    (within_day (base_32_after 0 (take 4 symbols)) (base_32_after 0 (take 4 (drop 4 symbols))))
+    (Err SymbolCount)
 
 -- tenths of a second with the last digit dropped
 abbrev pub whole_seconds : ℕ → ℕ

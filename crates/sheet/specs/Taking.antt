@@ -1,7 +1,7 @@
 -- What a typed line does to a slip's book.
 --   before_slash   the part of a line that holds its groups
 --   line_case      the case of a line
---   book_after_byte   one byte of that part: the book after it, or why the line is refused there
+--   book_after_byte   one byte of a group: the book after it, or why the byte is refused
 --   take_line      a whole line, on a fresh book
 use Rattle.std.specs.Prelude.{ℕ, ◌+◌, Bool, cond, List, [], ◌∷◌, Some, None, Ok, Err, Option, Result, ◌==◌}
 use Rattle.std.specs.List.{before_first}
@@ -57,15 +57,16 @@ fault_at place (faults.OnSlip fault) = OnSlip fault place
 fault_at place faults.OutsideSet = OutsideSet place
 fault_at place faults.OtherCase = OtherCase place
 
-abbrev pub and_then : {Fault : Type 0} → Result Book Fault → (Book → Result Book Fault) → Result Book Fault
-and_then (Ok b) next = next b
+abbrev pub and_then : {X Y Fault : Type 0} → Result X Fault → (X → Result Y Fault) → Result Y Fault
+and_then (Ok x) next = next x
 and_then (Err fault) next = Err fault
 
 -- bytes one after another, the first being at a place
 abbrev pub book_after_bytes : Bool → Case → ℕ → List ℕ → Book → Result Book LineFault
 book_after_bytes blanks case place [] b = Ok b
 book_after_bytes blanks case place (byte ∷ bytes) b =
-    and_then (refused_as (fault_at place) (book_after_byte blanks case byte b)) (book_after_bytes blanks case (place + 1) bytes)
+    and_then (refused_as (fault_at place) (book_after_byte blanks case byte b))
+    (book_after_bytes blanks case (place + 1) bytes)
 
 -- the groups among some pieces, one after another
 abbrev pub book_after_parts : Bool → Case → List Part → Book → Result Book LineFault
@@ -75,7 +76,8 @@ book_after_parts blanks case (group place bytes ∷ parts) b =
 book_after_parts blanks case (remark place bytes ∷ parts) b = book_after_parts blanks case parts b
 
 abbrev pub take_line : Bool → List ℕ → Result Book LineFault
-take_line blanks line = book_after_parts blanks (line_case (before_slash line)) (pieces line) fresh_book
+take_line blanks line =
+    book_after_parts blanks (line_case (before_slash line)) (pieces line) fresh_book
 
 -- an answer with the book that is left
 abbrev pub book_outcome : {Fault : Type 0} → Result (Unit {0}) Fault → Book → Result Book Fault

@@ -1,4 +1,4 @@
-// The 32 characters that stand for symbols. Each stands for its place in the set, in either case of a letter.
+// The 32 characters of the symbols. The symbol of each is its place in the set, in either case of a letter.
 ghost use Rattle.std.specs.Prelude.{◌≡◌, IfSome};
 ghost use Rattle.sheet.specs.Characters.{letter_case, read_character, write_character};
 
@@ -76,7 +76,8 @@ pub fn letter_case(byte: u8) -> Option<Case>
 /// The character of a symbol, none from 32 on. Reading it gives the symbol back.
 pub fn write_character(symbol: u8, case: Case) -> Option<u8>
     ensures value { result ≡ write_character case symbol }
-    ensures read_back { IfSome result (λ byte. read_character byte ≡ Some (Character.Symbol symbol)) }
+    ensures read_back { IfSome result
+        (λ byte. read_character byte ≡ Some (Character.Symbol symbol)) }
 {
     let small = *SET.get(usize::from(symbol))?;
     match case {

@@ -30,12 +30,14 @@ pub fn finish_stream<R: Read + LineAhead, W: Write>(
     writer: &mut W,
 ) -> Result<bool, StreamError>
     // What was read and written, on success and on failure.
-    ensures so_far { Streams (ShowsLine finish_numeric) 65536 (R.remaining reader.old) (R.remaining reader.new)
+    ensures so_far { Streams (ShowsLine finish_numeric) 65536
+        (R.remaining reader.old) (R.remaining reader.new)
         (W.contents writer.old) (W.contents writer.new) result }
 
     // On success the output lines are those of the first 65,536 bytes, of 31 bytes each.
     ensures all { OnOk result (IfSome (R.remaining reader.old) (λ input. (bytes : List ℕ)
-        × Appends (W.contents writer.old) (W.contents writer.new) bytes × Whole finish_numeric (lines_of (take 65536 input)) bytes)) }
+        × Appends (W.contents writer.old) (W.contents writer.new) bytes
+        × Whole finish_numeric (lines_of (take 65536 input)) bytes)) }
 {
     answer_lines::<FinishClerk, R, W>(alloc, reader, writer)
 }

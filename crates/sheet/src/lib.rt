@@ -1,5 +1,5 @@
-// Sheets: what crews type and what is written for them: typed lines, taken onto slips; rows in groups of four; rows that are read
-// off; output lines; and what the hut writes for each line.
+// Sheets: typed lines, taken onto slips; rows in groups of four; rows that are read off; output lines; and what the programs hut
+// and seal write for each line.
 #![tactic(auto)]
 
 pub mod characters;

@@ -5,7 +5,7 @@ ghost use Rattle.sheet.specs.OutputLines.{output_line};
 
 use crate::columns::write_column;
 
-/// What is told of one line of a sheet: a number for each column, as the format has them, so 0 where there is no refusal.
+/// What is written for one line of a sheet: a number for each column, as the format has them, so 0 where there is no refusal.
 #[derive(Clone, Copy, Debug)]
 pub struct Report {
     /// The line's number.

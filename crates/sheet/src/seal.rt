@@ -40,7 +40,8 @@ pub fn seal_stream<R: Read + LineAhead, W: Write>(
 
     // On success each line of the first 65,536 bytes is answered.
     ensures all { OnOk result (IfSome (R.remaining reader.old) (λ input.
-        AnswersAll SealedText (lines_of (take 65536 input)) (W.contents writer.old) (W.contents writer.new))) }
+        AnswersAll SealedText (lines_of (take 65536 input))
+        (W.contents writer.old) (W.contents writer.new))) }
 {
     answer_lines::<SealClerk, R, W>(alloc, reader, writer)
 }

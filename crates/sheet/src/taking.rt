@@ -15,7 +15,7 @@ use crate::pieces::{Piece, Pieces};
 use book::SlipFault;
 use slip::Slip;
 
-/// Why a byte is refused, wherever it stands.
+/// Why a byte is refused, at whatever place.
 #[derive(Clone, Copy, Debug)]
 pub enum ByteFault {
     /// The slip refuses what the byte says.
@@ -103,7 +103,8 @@ pub(crate) fn line_case(line: &[u8]) -> Case
 }
 
 fn take_pieces(slip: &mut Slip, line: &[u8], case: Case, blanks: bool) -> Result<(), LineFault>
-    ensures { book_outcome result slip.new ≡ book_after_parts blanks case (pieces line.now) slip.old }
+    ensures { book_outcome result slip.new
+        ≡ book_after_parts blanks case (pieces line.now) slip.old }
 {
     for piece in Pieces::new(line) {
         if let Piece::Group(start, bytes) = piece {
