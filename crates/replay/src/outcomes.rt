@@ -32,10 +32,7 @@ mod tests {
 
     #[test]
     fn writes_the_number(rt: HostRuntime) -> anyhow::Result<()> {
-        assert_eq!(rt;
-            write_refusal(rt.alloc(), 12)?.as_str(),
-            "refusal 12"
-        );
+        assert_eq!(rt; write_refusal(rt.alloc(), 12)?.as_str(), "refusal 12");
         Ok(())
     }
 

@@ -106,7 +106,9 @@ fn answer_by<C: Checksum>(heap: Global, slip: &mut Slip) -> anyhow::Result<Strin
         Err(_) => String::from_str(heap, "none")?,
     };
     let settled = settle::<C>(slip, &mut records, work.as_mut_slice());
-    if write_outcome(heap, listed(settled, &records).map_err(refusal_number))?.as_str() != list.as_str() {
+    if write_outcome(heap, listed(settled, &records).map_err(refusal_number))?.as_str()
+        != list.as_str()
+    {
         return Err(anyhow!("a settle that lists otherwise than a solve"));
     }
     let row = match settled {

@@ -37,7 +37,13 @@ fn answer_of_one<E: ExtensionField<BaseField = Fe32>>(
     let element: E = read_element(argument)?;
     match operation {
         "neg" => write_element(heap, element.neg()),
-        "inv" => write_outcome(heap, element.multiplicative_inverse().map(ByNumber).map_err(refusal_number)),
+        "inv" => write_outcome(
+            heap,
+            element
+                .multiplicative_inverse()
+                .map(ByNumber)
+                .map_err(refusal_number),
+        ),
         "order" => write_outcome(heap, multiplicative_order(element).map_err(refusal_number)),
         "drop" => write_optional(heap, element.drop_to_base()),
         _ => Err(anyhow!("an unknown operation of one argument")),
@@ -56,9 +62,16 @@ fn answer_of_two<F: Field>(
         "mul" => write_element(heap, element.mul(read_element(argument)?)),
         "div" => write_outcome(
             heap,
-            quotient(element, read_element(argument)?).map(ByNumber).map_err(refusal_number),
+            quotient(element, read_element(argument)?)
+                .map(ByNumber)
+                .map_err(refusal_number),
         ),
-        "powi" => write_outcome(heap, powi(element, argument.parse::<i64>()?).map(ByNumber).map_err(refusal_number)),
+        "powi" => write_outcome(
+            heap,
+            powi(element, argument.parse::<i64>()?)
+                .map(ByNumber)
+                .map_err(refusal_number),
+        ),
         "muli" => write_element(heap, muli(element, argument.parse::<i64>()?)),
         "powersnth" => write_power_after(heap, element, argument.parse::<usize>()?),
         _ => Err(anyhow!("an unknown operation of two arguments")),

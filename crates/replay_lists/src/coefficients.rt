@@ -58,7 +58,10 @@ pub fn roots<F: Field>(heap: Global, list: &[F], base: F) -> anyhow::Result<Stri
 fn answer_of_one<F: Field>(heap: Global, operation: &str, list: &[F]) -> anyhow::Result<String> {
     match operation {
         "degree" => write_outcome(heap, degree(list).map_err(refusal_number)),
-        "leading" => write_outcome(heap, leading_term(list).map(ByNumber).map_err(refusal_number)),
+        "leading" => write_outcome(
+            heap,
+            leading_term(list).map(ByNumber).map_err(refusal_number),
+        ),
         "deriv" => derivative(heap, list),
         _ => Err(anyhow!("an unknown operation of one argument")),
     }
@@ -71,7 +74,12 @@ fn answer_of_two<F: Field>(
     argument: &str,
 ) -> anyhow::Result<String> {
     match operation {
-        "eval" => write_outcome(heap, evaluate(list, read_element(argument)?).map(ByNumber).map_err(refusal_number)),
+        "eval" => write_outcome(
+            heap,
+            evaluate(list, read_element(argument)?)
+                .map(ByNumber)
+                .map_err(refusal_number),
+        ),
         "conv" => convolved(heap, list, read_elements(heap, argument)?.as_slice()),
         "roots" => roots(heap, list, read_element(argument)?),
         "add" => sum(heap, list, read_elements(heap, argument)?.as_slice()),

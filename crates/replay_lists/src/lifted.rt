@@ -24,7 +24,12 @@ fn lifted<E: ExtensionField>(heap: Global, list: &[E::BaseField]) -> anyhow::Res
 fn value<E: ExtensionField>(heap: Global, list: &[E::BaseField], x: E) -> anyhow::Result<String>
     ensures { IfOk result (λ text. string_bytes text ≡ shown (of_number E.Field.numbers) (unless_empty (length list.now) (eval E.Field.field (map E.lifted list.now) x))) }
 {
-    write_outcome(heap, evaluate_lifted(list, x).map(ByNumber).map_err(refusal_number))
+    write_outcome(
+        heap,
+        evaluate_lifted(list, x)
+            .map(ByNumber)
+            .map_err(refusal_number),
+    )
 }
 
 // A cursor over roots has one field, so that the list is lifted first.
