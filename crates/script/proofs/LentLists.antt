@@ -1,7 +1,7 @@
 -- A search that is lent 216 elements to work in answers as one that is lent more.
 --   found_on_workspace    a search at the front of a workspace
 --   left_is, left_clear   what it leaves there
-use Rattle.std.proofs.Common.{◌≡◌, ℕ, zero, suc, ◌+◌, ◌*◌, ◌≤◌, min, ltb, List, ◌∷◌, ◌++◌, length, take, drop, replicate, Ok, Err, Option, Result, sym, refl, ap, ◌∙◌, ⊎_elim, arith}
+use Rattle.std.proofs.Common.{◌≡◌, ℕ, zero, suc, ◌+◌, ◌*◌, ◌≤◌, true, min, ltb, List, ◌∷◌, ◌++◌, length, take, drop, replicate, Ok, Err, Option, Result, sym, refl, ap, ◌∙◌, ⊎_elim, arith}
 use Rattle.std.proofs.lemmas.List.{length-take, take-append-drop}
 use Rattle.std.proofs.lemmas.Bool.{lt-ltb, le-ltb, cases_lt}
 use Rattle.algebra.specs.Field.{FieldOn}
@@ -10,7 +10,8 @@ use Rattle.book.specs.Calls.{BookAnswer, SearchGives, search_fault, barred, none
 use Rattle.algebra.specs.NumericCode.{NumericCode}
 use Rattle.book.specs.declared.code_fault.CodeFault.{CodeFault}
 use Rattle.book.specs.declared.code_fault.CodeFault.TheVariants.{Short, Long, Records, Working, Doubts, Unfit}
-use Rattle.correction.specs.Answers.{FindsNear, workspace_after, zeros}
+use Rattle.correction.specs.Answers.{FindsNear, workspace_after}
+use Rattle.lists.specs.Faults.{zeros_if}
 use Rattle.correction.specs.declared.found.Found.{Found}
 use Rattle.script.specs.Script.{workspace_left}
 
@@ -35,6 +36,9 @@ module _ (C : NumericCode) (b : Book) (r w v : ℕ) (q : ltb w (12 * (C.bound + 
 module _ (C : NumericCode) (small : C.bound ≤ 16) (b : Book) (r w n : ℕ) {E : Type 0} (work : List E) (found : Result Found CodeFault) (q : n ≡ min w 216) (size : length work ≡ 216) where
   pub found_on_workspace : FindsNear C r (length (take n work)) b found → FindsNear C r w b found
   found_on_workspace = found_lent C b r w _ (enough w _ (12 * (C.bound + 2)) 216 (omega arith) (length-take n work ∙ omega arith)) found
+
+abbrev zeros : {E : Type 0} → FieldOn E → List E → List E
+zeros F list = zeros_if F true list
 
 module _ {E : Type 0} (F : FieldOn E) (n : ℕ) where
   -- the list after a search at its front
