@@ -8,7 +8,7 @@ use Rattle.std.proofs.Common.{◌≡◌, ℕ, ◌<◌, ◌≤◌, true, not, ◌
 use native.Mathlib.Decide.{ℕ_discrete}
 use lib.ListN.{length-map}
 use Rattle.std.proofs.lemmas.List.{map-append}
-use Rattle.std.proofs.lemmas.Bool.{and_from, and_parts, eq-eqb, eqb-true, false≢true, lt-ltb, ltb-true}
+use Rattle.std.proofs.lemmas.Bool.{and_from, and_parts, eq-eqb, eqb-true, lt-ltb, ltb-true}
 use Rattle.algebra.specs.Code.{Code, bound, checks, residue, seal, IsSoundRow, IsLawfulCode}
 use Rattle.algebra.specs.Field.{FieldOn, IsEmbedding, Enumeration}
 use Rattle.algebra.specs.Rows as rows

@@ -6,7 +6,7 @@
 --   write, blank, doubt   the book after each call, or why the call is refused
 --   answer, after  what a call answers, and the book that it leaves: a refusal changes nothing
 --   symbol_at, doubted_at   what is read from a book
-use Rattle.std.specs.Prelude.{ℕ, zero, suc, Bool, true, false, cond, List, [], ◌∷◌, ◌++◌, map, length, Ok, Err, Option, Result, nat_le, nat_lt, slice_index_or}
+use Rattle.std.specs.Prelude.{ℕ, Bool, true, false, cond, [], ◌∷◌, ◌++◌, length, Ok, Err, Option, Result, nat_le, nat_lt, slice_index_or}
 use Rattle.std.specs.List.{slice_get}
 use Rattle.algebra.specs.Rows.{PlaceOf, BookOf}
 pub use Rattle.algebra.specs.Rows.{symbols as row, doubted_places as marks, mark, doubts}

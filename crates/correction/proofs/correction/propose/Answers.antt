@@ -1,6 +1,5 @@
 use Rattle.std.proofs.Common.{ap, ◌∙◌, arith}
 use Rattle.algebra.specs.Rows.{count_true}
-use Rattle.book.specs.Book.{marks}
 use Rattle.correction.proofs.Proposals.{tells_at, refused_doubts, refused_errors, refused_erasures, refused_rest, all_proposed}
 use Rattle.correction.proofs.correction.propose.Goals as goal
 

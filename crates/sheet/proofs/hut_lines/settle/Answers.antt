@@ -1,4 +1,3 @@
-use Rattle.script.specs.declared.script.Call.TheVariants.{Settle}
 use Rattle.sheet.proofs.hut_lines.settle.Goals as goal
 
 pub returns-clause-decided : goal.returns-clause-decided
