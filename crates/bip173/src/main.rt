@@ -1,54 +1,59 @@
 // Runs strings of BIP 173 through the sheet code: each line of standard input that does not begin with # is a string, and for
-// each a line is written that says whether its row is sound, or too long for the code. Only the check is looked at, and not
-// what the string means. A string that cannot be read ends the run.
+// each a line is written that says whether its row is sound, or too long for the code, or whether the string cannot be read.
+// Only the check is looked at, and not what the string means.
 #![tactic(auto)]
 
-use anyhow::{Context, anyhow, ensure};
-use checksum::checksum::Checksum;
-use checksum::engine::is_sound;
+use anyhow::Context;
 use checksum::symbols::element;
-use codes::bech32::Bech32;
-use gf32::gf32::Fe32;
-use sheet::characters::{Character, read_character};
+use checksum::{Bech32, Checksum, is_sound};
+use fields::{Fe32, Field};
+use sheet::Character;
+use sheet::characters::read_character;
 use std::alloc::Global;
-use std::io::{BufRead, BufReader};
+use std::io::Read;
+
+// What is read at most.
+const INPUT_BYTES: u64 = 65_536;
 
 fn symbol(number: u8) -> anyhow::Result<Fe32> {
     element::<Bech32>(number).context("a symbol above 31")
 }
 
 // The human-readable part as symbols: the high bits of each character, ZERO, and the low five bits of each, in small letters.
-fn expand(row: &mut Vec<Fe32>, part: &str) -> anyhow::Result<()> {
-    ensure!(
-        part.bytes().all(|byte| byte.is_ascii_graphic()),
-        "a byte in the human-readable part that nobody can read"
-    );
-    for byte in part.bytes() {
+fn expand(row: &mut Vec<Fe32>, part: &[u8]) -> anyhow::Result<()> {
+    for byte in part {
         row.push(symbol(byte.to_ascii_lowercase() >> 5)?)?;
     }
     row.push(Fe32::ZERO)?;
-    for byte in part.bytes() {
+    for byte in part {
         row.push(symbol(byte.to_ascii_lowercase() % 32)?)?;
     }
     Ok(())
 }
 
-// The last 1 parts the human-readable part from the data.
-fn read_string(heap: Global, text: &str) -> anyhow::Result<Vec<Fe32>> {
-    let (part, characters) = text.rsplit_once('1').context("a string without a 1")?;
+// The last 1 parts the human-readable part from the data. There is no row where there is none, or where a character is
+// none that such a string may have.
+fn read_string(heap: Global, text: &[u8]) -> anyhow::Result<Option<Vec<Fe32>>> {
+    let Some(separator) = text.iter().rposition(|byte| *byte == b'1') else {
+        return Ok(None);
+    };
+    let part = &text[..separator];
+    if !part.iter().all(|byte| byte.is_ascii_graphic()) {
+        return Ok(None);
+    }
     let mut row = Vec::new(heap);
     expand(&mut row, part)?;
-    for byte in characters.bytes() {
-        match read_character(byte) {
+    for byte in &text[separator + 1..] {
+        match read_character(*byte) {
             Some(Character::Symbol(number)) => row.push(symbol(number)?)?,
-            _ => return Err(anyhow!("a data character outside the set")),
+            _ => return Ok(None),
         }
     }
-    Ok(row)
+    Ok(Some(row))
 }
 
 fn verdict(row: &[Fe32]) -> &'static str {
-    if row.len() > Bech32::code_length() {
+    if row.len() > Bech32::CODE_LENGTH {
         "too long"
     } else if is_sound::<Bech32>(row) {
         "sound"
@@ -59,13 +64,18 @@ fn verdict(row: &[Fe32]) -> &'static str {
 
 fn run(rt: &HostRuntime) -> anyhow::Result<()> {
     let heap = rt.alloc();
-    for line in BufReader::new(heap, rt.stdin())?.lines(heap) {
-        let text = line?;
-        if text.as_str().starts_with('#') {
+    let mut input = Vec::new(heap);
+    rt.stdin().take(INPUT_BYTES).read_to_end(&mut input)?;
+    // By bytes, since a string may have some that make no text.
+    for line in input.as_slice().split(|byte| *byte == b'\n') {
+        if line.is_empty() || line.starts_with(b"#") {
             continue;
         }
-        let row = read_string(heap, text.as_str())?;
-        let verdict = verdict(row.as_slice());
+        let verdict = match read_string(heap, line)? {
+            Some(row) => verdict(row.as_slice()),
+            None => "unreadable",
+        };
+        let text = String::from_utf8_lossy(heap, line)?;
         println!(rt; "{text}: {verdict}")?;
     }
     Ok(())

@@ -1,71 +1,54 @@
--- The book of a slip: what its calls alone say that it holds. Assumes nothing.
+-- The book of a slip: what its calls alone say that it holds.
 --   Place, Book    a symbol, as a number, and whether it is doubted; a slip's places in their order
 --   row, marks     the symbols of a book, and which of its places are doubted
---   fresh          the book of a new slip, and of one that was wiped
+--   mark, doubts   a book with one more place doubted, and how many are
+--   fresh_book     the book of a new slip, and of one that was wiped
 --   write, blank, doubt   the book after each call, or why the call is refused
 --   answer, after  what a call answers, and the book that it leaves: a refusal changes nothing
---   symbol_at, doubted_at, doubts   what is read from a book
-use Rattle.std.specs.Prelude.{ℕ, zero, suc, Bool, true, false, cond, List, [], ◌∷◌, ◌++◌, map, length, Ok, Err, Option, Result, count_by, nat_le, nat_lt, slice_index_or}
+--   symbol_at, doubted_at   what is read from a book
+use Rattle.std.specs.Prelude.{ℕ, Bool, true, false, cond, [], ◌∷◌, ◌++◌, length, Ok, Err, Option, Result, nat_le, nat_lt, slice_index_or}
 use Rattle.std.specs.List.{slice_get}
-use Rattle.algebra.specs.Rows as rows
+use Rattle.algebra.specs.Rows.{PlaceOf, BookOf}
+pub use Rattle.algebra.specs.Rows.{symbols as row, doubted_places as marks, mark, doubts}
 use Rattle.book.specs.declared.slip_fault.SlipFault.{SlipFault}
 use Rattle.book.specs.declared.slip_fault.SlipFault.TheVariants.{Symbol, Full, Absent}
 
 abbrev pub Place : Type 0
-Place = rows.Place ℕ
+Place = PlaceOf ℕ
 
 abbrev pub Book : Type 0
-Book = rows.Book ℕ
+Book = BookOf ℕ
 
-abbrev pub sure : ℕ → Place
-sure v = record { symbol = v; doubted = false }
+abbrev pub undoubted_place : ℕ → Place
+undoubted_place v = record { symbol = v; doubted = false }
 
-abbrev pub unsure : ℕ → Place
-unsure v = record { symbol = v; doubted = true }
+abbrev pub doubted_place : ℕ → Place
+doubted_place v = record { symbol = v; doubted = true }
 
-abbrev pub row : Book → List ℕ
-row b = map (λ p. p.symbol) b
-
-abbrev pub marks : Book → List Bool
-marks b = map (λ p. p.doubted) b
-
-abbrev pub fresh : Book
-fresh = []
+abbrev pub fresh_book : Book
+fresh_book = []
 
 -- a symbol more, undoubted: it has to be a symbol, and then there has to be room
 abbrev pub write : ℕ → Book → Result Book SlipFault
-write v b = cond (nat_lt 31 v) (Err Symbol) (cond (nat_le 89 (length b)) (Err Full) (Ok (b ++ sure v ∷ [])))
+write v b = cond (nat_lt 31 v) (Err Symbol) (cond (nat_le 89 (length b)) (Err Full) (Ok (b ++ undoubted_place v ∷ [])))
 
 -- a symbol more that was not understood
 abbrev pub blank : Book → Result Book SlipFault
-blank b = cond (nat_le 89 (length b)) (Err Full) (Ok (b ++ unsure 0 ∷ []))
-
--- the book with a place doubted
-abbrev pub mark : ℕ → Book → Book
-mark place [] = []
-mark zero (p ∷ b) = unsure p.symbol ∷ b
-mark (suc place) (p ∷ b) = p ∷ mark place b
+blank b = cond (nat_le 89 (length b)) (Err Full) (Ok (b ++ doubted_place 0 ∷ []))
 
 abbrev pub doubt : ℕ → Book → Result Book SlipFault
 doubt place b = cond (nat_le (length b) place) (Err (Absent place)) (Ok (mark place b))
 
-abbrev pub answer : {Fault : Type 0} → Result Book Fault → Result (Unit {0}) Fault
-answer (Ok _) = Ok tt
-answer (Err fault) = Err fault
+abbrev pub answer_of : {Fault : Type 0} → Result Book Fault → Result (Unit {0}) Fault
+answer_of (Ok _) = Ok tt
+answer_of (Err fault) = Err fault
 
-abbrev pub after : {Fault : Type 0} → Book → Result Book Fault → Book
-after b (Ok next) = next
-after b (Err _) = b
+abbrev pub book_after : {Fault : Type 0} → Book → Result Book Fault → Book
+book_after b (Ok next) = next
+book_after b (Err _) = b
 
 abbrev pub symbol_at : ℕ → Book → Option ℕ
 symbol_at place b = slice_get (row b) place
 
 abbrev pub doubted_at : ℕ → Book → Bool
 doubted_at place b = slice_index_or (marks b) place false
-
--- how many are true
-abbrev pub trues : List Bool → ℕ
-trues flags = count_by (λ flag. flag) flags
-
-abbrev pub doubts : Book → ℕ
-doubts b = trues (marks b)

@@ -1,9 +1,6 @@
 pub mod Book
 pub mod Calls
-pub mod CodeFaults
 pub mod Codes
 pub mod Mending
-pub mod Patterns
 pub mod Promise
-pub mod SlipFaults
 pub mod Story

@@ -1,45 +1,51 @@
--- What is promised of solve and settle by a code. Assumes nothing.
+-- What is promised of solve and settle by a code.
+use Rattle.std.specs.List.{AllByRecursion}
 use Rattle.std.specs.Prelude.{◌≡◌, ℕ, ◌+◌, ◌*◌, ◌<◌, ◌≤◌, ◌⊎◌, List, map, length}
-use Rattle.field.specs.declared.fault.Refusal.{Refusal}
-use Rattle.book.specs.Book.{Book, sure}
-use Rattle.book.specs.Calls.{Answer, Follows, lists, doubt, solve, settle, done, refused, listed}
-use Rattle.book.specs.Codes.{Rows, Near}
+use Rattle.book.specs.Book.{Book, row, undoubted_place}
+use Rattle.book.specs.Calls.{BookAnswer, Follows, listing_of, doubt, solve, settle, done, refused, listed}
+use Rattle.algebra.specs.NumericCode.{NumericCode}
+use Rattle.book.specs.Codes.{IsNear}
+use Rattle.book.specs.Mending.{changes, IsOnlyPattern}
+use Rattle.book.specs.declared.call_fault.CallFault.{CallFault}
 use Rattle.book.specs.declared.record.Record.{Record}
 
-abbrev pub Refused : Answer → Type 0
-Refused a = (why : Refusal) × (a ≡ refused why)
+abbrev pub IsRefusal : BookAnswer → Type 0
+IsRefusal a = (fault : CallFault) × (a ≡ refused fault)
 
 -- the row is neither too short nor too long, and the lent lists are long enough
-pub record Workable (C : Rows) (r w : ℕ) (b : Book) : Type 0 where
+pub record IsWorkable (C : NumericCode) (r w : ℕ) (b : Book) : Type 0 where
   pub long : C.checks < length b
   pub short : length b ≤ C.limit
   pub records : C.bound ≤ r
   pub working : 12 * (C.bound + 2) ≤ w
 
 -- a solve that gives the row n, and a settle that does
-abbrev pub Solved : Rows → Book → List ℕ → Answer → Book → Type 0
-Solved C b n a next = (a ≡ lists C b n) × (next ≡ b)
+abbrev pub SolveGives : NumericCode → Book → List ℕ → BookAnswer → Book → Type 0
+SolveGives C b n a next = (a ≡ listing_of C b n) × (next ≡ b)
 
-abbrev pub Settled : Rows → Book → List ℕ → Answer → Book → Type 0
-Settled C b n a next = (a ≡ lists C b n) × (next ≡ map sure n)
+abbrev pub SettleGives : NumericCode → Book → List ℕ → BookAnswer → Book → Type 0
+SettleGives C b n a next = (a ≡ listing_of C b n) × (next ≡ map undoubted_place n)
 
 -- every answer gives n
-pub record Gives (C : Rows) (r w : ℕ) (b : Book) (n : List ℕ) : Type 0 where
-  pub solved : (a : Answer) (next : Book) → Follows b (solve C r w) a next → Solved C b n a next
-  pub settled : (a : Answer) (next : Book) → Follows b (settle C r w) a next → Settled C b n a next
+pub record Gives (C : NumericCode) (r w : ℕ) (b : Book) (n : List ℕ) : Type 0 where
+  pub solved : (a : BookAnswer) (next : Book) → Follows b (solve C r w) a next → SolveGives C b n a next
+  pub settled : (a : BookAnswer) (next : Book) → Follows b (settle C r w) a next → SettleGives C b n a next
 
 -- every answer gives n or is a refusal
-pub record GivesOnly (C : Rows) (r w : ℕ) (b : Book) (n : List ℕ) : Type 0 where
-  pub solved : (a : Answer) (next : Book) → Follows b (solve C r w) a next → Refused a ⊎ Solved C b n a next
-  pub settled : (a : Answer) (next : Book) → Follows b (settle C r w) a next → Refused a ⊎ Settled C b n a next
+pub record GivesOnly (C : NumericCode) (r w : ℕ) (b : Book) (n : List ℕ) : Type 0 where
+  pub solved : (a : BookAnswer) (next : Book) → Follows b (solve C r w) a next → IsRefusal a ⊎ SolveGives C b n a next
+  pub settled : (a : BookAnswer) (next : Book) → Follows b (settle C r w) a next → IsRefusal a ⊎ SettleGives C b n a next
 
-pub record Promise (C : Rows) : Type 0 where
+pub record KeepsPromise (C : NumericCode) : Type 0 where
   -- (a) a sound row that is near is given: whichever undoubted places were altered, whatever the doubted ones hold
-  pub restores : (b : Book) (n : List ℕ) (r w : ℕ) → Workable C r w b → Near C b n → Gives C r w b n
+  pub restores : (b : Book) (n : List ℕ) (r w : ℕ) → IsWorkable C r w b → IsNear C b n → Gives C r w b n
   -- (b) where no row is near, every answer is a refusal
-  pub refuses : (b : Book) → ((n : List ℕ) → ¬ Near C b n) → (r w : ℕ) (a : Answer) (next : Book)
-      → Follows b (solve C r w) a next ⊎ Follows b (settle C r w) a next → Refused a × (next ≡ b)
+  pub refuses : (b : Book) → ((n : List ℕ) → ¬ IsNear C b n) → (r w : ℕ) (a : BookAnswer) (next : Book)
+      → Follows b (solve C r w) a next ⊎ Follows b (settle C r w) a next → IsRefusal a × (next ≡ b)
   -- (c) a solve that lists gives a near row, and with one more place doubted only that row is given
   pub one_more : (b next : Book) (r w : ℕ) (cs : List Record) (i j : ℕ) → Follows b (solve C r w) (listed cs i j) next
-      → (n : List ℕ) × Near C b n × Solved C b n (listed cs i j) next
+      → (n : List ℕ) × IsNear C b n × SolveGives C b n (listed cs i j) next
       × ((p : ℕ) (doubted : Book) → Follows next (doubt p) done doubted → (r' w' : ℕ) → GivesOnly C r' w' doubted n)
+  -- what is listed of a near row within the limit is the one pattern that fits, and makes the row that row
+  pub one_pattern : (b : Book) (n : List ℕ) → AllByRecursion (λ v. v < C.size) (row b) → length b ≤ C.limit → IsNear C b n
+      → IsOnlyPattern C b n (changes C b n)

@@ -1,11 +1,7 @@
 // Why a code refuses a slip.
-ghost use Rattle.std.specs.Prelude.{◌≡◌};
-ghost use Rattle.book.specs.CodeFaults.{told};
-
-use field::fault::{Layer, Refusal};
 
 /// Why a code refuses to seal or to mend a slip.
-#[derive(Clone, Copy, PartialEq, Eq, Debug)]
+#[derive(Clone, Copy, Debug)]
 pub enum CodeFault {
     /// The slip holds too few symbols to be worked on.
     Short,
@@ -19,25 +15,4 @@ pub enum CodeFault {
     Doubts,
     /// No row is near.
     Unfit,
-}
-
-/// What the code's refusal tells.
-impl From<CodeFault> for Refusal {
-    ghost from_gives = { λ fault r. r ≡ told fault };
-
-    fn from(fault: CodeFault) -> Refusal {
-        let number = match fault {
-            CodeFault::Short => 4,
-            CodeFault::Long => 5,
-            CodeFault::Records => 6,
-            CodeFault::Working => 7,
-            CodeFault::Doubts => 8,
-            CodeFault::Unfit => 9,
-        };
-        Refusal {
-            number,
-            layer: Layer::Code,
-            place: 0,
-        }
-    }
 }

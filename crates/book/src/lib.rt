@@ -2,7 +2,12 @@
 // definitions are in specs/, and what follows from them in proofs/; the code is the faults, and the records of a mended row.
 #![tactic(auto)]
 
+pub mod call_fault;
 pub mod code_fault;
-pub mod pattern;
 pub mod record;
 pub mod slip_fault;
+
+pub use call_fault::CallFault;
+pub use code_fault::CodeFault;
+pub use record::{BLANK, Record};
+pub use slip_fault::SlipFault;

@@ -1,9 +1,9 @@
--- One symbol into the engine's residue, from the lowest power up. Assumes nothing.
+-- One symbol into the engine's residue, from the lowest power up.
 use Rattle.std.proofs.Common.{◌≡◌, ℕ, zero, suc, ◌+◌, ◌-◌, ◌<◌, ◌≤◌, List, [], ◌∷◌, ◌++◌, length, get_or, take, drop, set, replicate, sym, refl, ap, ◌∙◌, ap₂, append_assoc, arith}
 use Rattle.std.proofs.lemmas.List.{drop_more, drop_all, drop-set-lt, get_or_append_left, take-append-drop, take_more_set, take-replicate}
 use Rattle.algebra.specs.Field.{FieldOn}
 use Rattle.algebra.specs.Poly.{coeff, poly_add, poly_scale}
-use Rattle.algebra.specs.Code.{rest, top, modulo, one}
+use Rattle.algebra.specs.Code.{modulo, poly_one}
 
 module _ {S : Type 0} (F : FieldOn S) where
   open F use {𝟘, 𝟙, add as ◌⊕◌, mul as ◌⊗◌, neg as ⊖◌}
@@ -11,7 +11,7 @@ module _ {S : Type 0} (F : FieldOn S) where
   infixl 60 ◌⊕◌
   infixl 70 ◌⊗◌
   infix 80 ⊖◌
-  pub front_one : (k : ℕ) → 1 ≤ k → k ≤ 16 → take k (𝟙 ∷ replicate 15 𝟘) ≡ one F k
+  pub front_one : (k : ℕ) → 1 ≤ k → k ≤ 16 → take k (𝟙 ∷ replicate 15 𝟘) ≡ poly_one F k
   front_one zero h l = absurd (omega arith)
   front_one (suc n) h l = ap (λ xs. 𝟙 ∷ xs) (take-replicate n 15 𝟘 (omega arith))
 
@@ -46,15 +46,13 @@ module _ {S : Type 0} (F : FieldOn S) where
       ap (λ (b : List S). take n rs ++ feed c below (drop n rs) b) (drop_all n gs h)
       ∙ ap (λ (b : List S). take n rs ++ b) (feed_none c below (drop n rs)) ∙ take-append-drop n rs
 
-  feed_is : (c v : S) (r gs : List S) → length r ≡ length gs → 0 < length r → feed c v r gs ≡ poly_add F (rest F (v ∷ r)) (poly_scale F c gs)
-  feed_is c v [] gs e h = absurd (omega arith)
-  feed_is c v (a ∷ r) [] e h = absurd (omega arith)
-  feed_is c v (a ∷ []) (g ∷ []) e h = refl
-  feed_is c v (a ∷ []) (g ∷ g' ∷ gs) e h = absurd (omega arith)
-  feed_is c v (a ∷ b ∷ r) (g ∷ []) e h = absurd (omega arith)
-  feed_is c v (a ∷ b ∷ r) (g ∷ g' ∷ gs) e h = ap (λ xs. (v ⊕ c ⊗ g) ∷ xs) (feed_is c a (b ∷ r) (g' ∷ gs) (omega arith) (omega arith))
+  feed_is : (c v : S) (r gs : List S) → length r ≡ length gs → feed c v r gs ≡ poly_add F (take (length gs) (v ∷ r)) (poly_scale F c gs)
+  feed_is c v [] [] e = refl
+  feed_is c v [] (g ∷ gs) e = absurd (omega arith)
+  feed_is c v (a ∷ r) [] e = absurd (omega arith)
+  feed_is c v (a ∷ r) (g ∷ gs) e = ap (λ xs. (v ⊕ c ⊗ g) ∷ xs) (feed_is c a r gs (omega arith))
 
-  top_is : (v : S) (r : List S) (x : S) → 0 < length r → top F (v ∷ r) ≡ get_or r (length r - 1) x
+  top_is : (v : S) (r : List S) (x : S) → 0 < length r → coeff F (v ∷ r) (length r) ≡ get_or r (length r - 1) x
   top_is v [] x h = absurd (omega arith)
   top_is v (a ∷ []) x h = refl
   top_is v (a ∷ b ∷ r) x h = top_is a (b ∷ r) x (omega arith) ∙ ap (λ (n : ℕ). get_or (a ∷ b ∷ r) n x) (let e : suc (length (b ∷ r) - 1) ≡ length (a ∷ b ∷ r) - 1 = omega arith in e)
@@ -62,4 +60,5 @@ module _ {S : Type 0} (F : FieldOn S) where
   -- the whole step, where x is the top coefficient
   pub feed_modulo : (v x : S) (rs gs : List S) → length rs ≡ length gs → 0 < length rs → x ≡ get_or rs (length rs - 1) x → feed (⊖ x) v rs gs ≡ modulo F gs (v ∷ rs)
   feed_modulo v x rs gs l h e =
-      feed_is (⊖ x) v rs gs l h ∙ ap (λ t. poly_add F (rest F (v ∷ rs)) (poly_scale F (⊖ t) gs)) (e ∙ sym (top_is v rs x h))
+      feed_is (⊖ x) v rs gs l
+      ∙ ap (λ t. poly_add F (take (length gs) (v ∷ rs)) (poly_scale F (⊖ t) gs)) (e ∙ sym (top_is v rs x h) ∙ ap (coeff F (v ∷ rs)) l)

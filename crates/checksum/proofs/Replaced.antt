@@ -1,8 +1,9 @@
--- A list whose entries are replaced one by one, from the front: the first i are new. Assumes nothing.
-use Rattle.std.proofs.Common.{◌≡◌, ℕ, ◌+◌, ◌<◌, ◌≤◌, List, [], ◌∷◌, ◌++◌, length, get_or, take, drop, set, sym, ap, ◌∙◌, ap₂, append-nil, append_assoc, arith}
-use Rattle.std.proofs.lemmas.List.{drop_more, take_more, length-take-le, set_at, get_or_at, take_all, drop_all, get_or_default}
+-- A list whose entries are replaced one by one, from the front: the first i are new.
+use Rattle.std.proofs.Common.{◌≡◌, ℕ, ◌+◌, ◌<◌, ◌≤◌, List, [], ◌∷◌, ◌++◌, map, length, get_or, take, drop, set, sym, refl, ap, ◌∙◌, ap₂, append-nil, append_assoc, arith}
+use Rattle.std.proofs.lemmas.List.{drop_more, take_more, length-take-le, set_at, get_or_at, take_all, drop_all, get_or_default, length-map, get_or-map}
 use Rattle.algebra.specs.Field.{FieldOn}
 use Rattle.algebra.specs.Poly.{coeff, poly_sub}
+use Rattle.algebra.proofs.Laws.{neg_neg, neg_add_dist}
 use Rattle.algebra.proofs.Poly.{coeff_poly_sub}
 
 module _ {X : Type 0} (new old : List X) (long : length new ≡ length old) where
@@ -32,3 +33,19 @@ module _ {S : Type 0} (F : FieldOn S) (p q old : List S) (long : length (poly_su
       let is_w : w ≡ coeff F (poly_sub F p q) i = e ∙ ap₂ (λ x y. F.add x (F.neg y)) ea eb ∙ sym (coeff_poly_sub F p q i) in
       ap (λ xs. set xs i w) so_far
       ∙ replaced_more (poly_sub F p q) old long i w here (is_w ∙ get_or_default (poly_sub F p q) i F.𝟘 w (omega arith))
+
+module _ {S : Type 0} (F : FieldOn S) where
+  pub neg_poly_sub : (p q : List S) → length p ≡ length q → map F.neg (poly_sub F p q) ≡ poly_sub F q p
+  neg_poly_sub [] [] e = refl
+  neg_poly_sub [] (b ∷ q) e = absurd (omega arith)
+  neg_poly_sub (a ∷ p) [] e = absurd (omega arith)
+  neg_poly_sub (a ∷ p) (b ∷ q) e = ap₂ ◌∷◌ (neg_add_dist F a (F.neg b) ∙ ap (F.add (F.neg a)) (neg_neg F b) ∙ F.add_comm (F.neg a) b) (neg_poly_sub p q (omega arith))
+
+-- where a list's entries are mapped one by one
+module _ {X : Type 0} (f : X → X) (old : List X) (i : ℕ) (here : i < length old) (now : List X) (so_far : now ≡ take i (map f old) ++ drop i old) where
+  pub mapped_more : (d w : X) → w ≡ f (get_or now i d) → set now i w ≡ take (i + 1) (map f old) ++ drop (i + 1) old
+  mapped_more d w e =
+      let long = length-map old f in
+      let read : get_or now i d ≡ get_or old i d = ap (λ xs. get_or xs i d) so_far ∙ replaced_read (map f old) old long i d here in
+      ap (λ xs. set xs i w) so_far
+      ∙ replaced_more (map f old) old long i w here (e ∙ ap f read ∙ sym (get_or-map f old i d w here))

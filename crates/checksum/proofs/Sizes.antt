@@ -1,5 +1,5 @@
--- An engine takes little memory. Assumes nothing.
-use Rattle.std.proofs.Common.{ℕ, ◌+◌, ◌-◌, ◌*◌, ◌%◌, ◌<◌, ◌≤◌, max, sym, subst, mod-lt, arith, w8, w16, w32, w64}
+-- An engine takes little memory.
+use Rattle.std.proofs.Common.{ℕ, ◌+◌, ◌-◌, ◌*◌, ◌%◌, ◌^◌, ◌<◌, ◌≤◌, max, sym, subst, mod-lt, arith, w8, w16, w32, w64}
 use mir.Syntax.{Ty, Width, w128}
 use mir.Val.{bytes}
 use prog.Memory.{size, align, up}
@@ -18,7 +18,7 @@ align_small τ = subst (λ (n : ℕ). (0 < n) × (n ≤ 16)) (sym (align-bytes �
 up_small : (k e : ℕ) → 0 < k → k ≤ 16 → up k e ≤ e + 16
 up_small k e h l = omega (arith, mod-lt (k - e % k) {m = k} h)
 
-pub engine_fits : (τ : Ty) → size τ ≤ 1024 → up (max (align τ) 1) (up (align τ) 0 + 16 * size τ) < 9223372036854775808
+pub engine_fits : (τ : Ty) → size τ ≤ 2 ^ 50 → up (max (align τ) 1) (up (align τ) 0 + 16 * size τ) < 9223372036854775808
 engine_fits τ h =
     let a = align_small τ in
     let inner = up_small (align τ) 0 a.0 a.1 in

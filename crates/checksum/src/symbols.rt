@@ -2,11 +2,11 @@
 ghost use Rattle.std.specs.Prelude.{◌≡◌, ◌<◌, ◌≤◌, Some, None};
 
 use crate::checksum::Checksum;
-use field::field::Field;
+use fields::Field;
 
-/// The number of a symbol. By `as`: that the number fits is the alphabet's law, which `try_from` would test again.
+/// The number of a symbol. The cast loses nothing, as the alphabet has 32 symbols.
 pub fn number<C: Checksum>(symbol: C::SymbolField) -> u8
-    ensures number { result ≡ C.SymbolField.Field.numbers.number symbol }
+    ensures number { result ≡ C.SymbolField.numbers.number symbol }
     ensures below { result < 32 }
 {
     C::laws();
@@ -15,7 +15,7 @@ pub fn number<C: Checksum>(symbol: C::SymbolField) -> u8
 
 /// The symbol that a number stands for, none from 32 on.
 pub fn element<C: Checksum>(number: u8) -> Option<C::SymbolField>
-    ensures below { number < 32 → result ≡ Some (C.SymbolField.Field.numbers.element number) }
+    ensures below { number < 32 → result ≡ Some (C.SymbolField.numbers.element number) }
     ensures past { 32 ≤ number → result ≡ None }
 {
     C::laws();

@@ -1,17 +1,16 @@
--- A search for roots: where it starts, and its next index. Assumes nothing.
-use Rattle.std.proofs.Common.{◌≡◌, ℕ, ◌<◌, List, [], ◌∷◌, map, length, drop, Some, Ok, Option, Result, sym, refl, ap, ◌∙◌, subst, arith}
+-- A search for roots: where it starts, and its next index.
+use Rattle.std.proofs.Common.{◌≡◌, ℕ, zero, suc, ◌+◌, ◌-◌, ◌<◌, Bool, true, false, cond, List, [], ◌∷◌, map, length, Some, Ok, Option, Result, sym, refl, ap, ◌∙◌, ap₂, subst, arith}
 use native.Mathlib.Decide.{dec_lt}
 use Rattle.std.proofs.lemmas.Option.{none-some, same_Some}
-use Rattle.std.specs.List.{slice_get}
+use Rattle.std.specs.List.{filter, find, range_with_len}
 use Rattle.algebra.specs.Decode.{root_position}
 use Rattle.algebra.specs.Field.{FieldOn, HasOrder}
 use Rattle.book.specs.declared.record.Record.{Record}
-use Rattle.fieldvec.specs.Faults.{asked}
-use Rattle.fieldvec.specs.declared.fault.ListFault.{ListFault}
-use Rattle.fieldvec.proofs.Filled.{asked_some}
-use Rattle.polynomial.specs.Roots.{roots, coming, Stepped}
-use Rattle.polynomial.specs.declared.roots.Roots.{Roots}
-use Rattle.correction.specs.Listing.{Lists}
+use Rattle.lists.specs.Faults.{unless_empty}
+use Rattle.lists.specs.declared.fault.ListFault.{ListFault}
+use Rattle.lists.proofs.Filled.{asked_some}
+use Rattle.lists.specs.Roots.{Cursor, cursor_after, is_root, next_root, roots}
+use Rattle.correction.specs.Steps.Listing.{Lists}
 use Rattle.correction.proofs.Onward.{Onward}
 
 module _ {A : Type 0} (F : FieldOn A) (a : A) where
@@ -30,31 +29,61 @@ module _ {A : Type 0} (F : FieldOn A) (a : A) where
   for_order p len {Change} {before} {after} {r} {m} h listed n k =
       subst (λ o. Lists Change len (map (root_position o) (roots F p a o)) before r after) (same_order m n h k) listed
 
--- A list that has entries is lent to a cursor.
-module _ {A : Type 0} (F : FieldOn A) (p : List A) (some : 0 < length p) (c : Roots A) where
-  answered : {r : Result (Option ℕ) ListFault} {o : Option ℕ} → r ≡ asked (length p) (slice_get (coming F p c) 0) → r ≡ Ok o → o ≡ slice_get (coming F p c) 0
-  answered answer is = let given = asked_some (length p) (slice_get (coming F p c) 0) some in cc
+-- what a search finds first, and what then remains
+module _ (test : ℕ → Bool) where
+  find_filter : (k i x : ℕ) → find test (range_with_len i k) ≡ Some x → filter test (range_with_len i k) ≡ x ∷ filter test (range_with_len (x + 1) (i + k - (x + 1)))
+  find_filter zero i x e = absurd (none-some x e)
+  find_filter (suc k) i x e = by (test i) (find_filter k (i + 1) x) e
+    where
+      by : (t : Bool)
+          → (find test (range_with_len (i + 1) k) ≡ Some x → filter test (range_with_len (i + 1) k) ≡ x ∷ filter test (range_with_len (x + 1) (i + 1 + k - (x + 1))))
+          → cond t (Some i) (find test (range_with_len (i + 1) k)) ≡ Some x
+          → cond t (i ∷ filter test (range_with_len (i + 1) k)) (filter test (range_with_len (i + 1) k)) ≡ x ∷ filter test (range_with_len (x + 1) (i + suc k - (x + 1)))
+      by true later q =
+          let same : i ≡ x = same_Some i x q in
+          let many : k ≡ i + suc k - (x + 1) = omega arith in
+          ap₂ (λ j m. j ∷ filter test (range_with_len (j + 1) m)) same many
+      by false later q =
+          let many : i + 1 + k - (x + 1) ≡ i + suc k - (x + 1) = omega arith in
+          later q ∙ ap (λ m. x ∷ filter test (range_with_len (x + 1) m)) many
 
-  stepped : (q : List A) (c' : Roots A) → 0 < length q → Stepped F q c c' → coming F q c' ≡ drop 1 (coming F q c)
-  stepped [] c' some s = absurd (omega arith)
-  stepped (x ∷ q) c' some s = s
+  find_none : (js : List ℕ) → ((x : ℕ) → ¬ (find test js ≡ Some x)) → filter test js ≡ []
+  find_none [] never = refl
+  find_none (j ∷ js) never = by (test j) (find_none js) never
+    where
+      by : (t : Bool) → (((x : ℕ) → ¬ (find test js ≡ Some x)) → filter test js ≡ [])
+          → ((x : ℕ) → ¬ (cond t (Some j) (find test js) ≡ Some x)) → cond t (j ∷ filter test js) (filter test js) ≡ []
+      by true later n = absurd (n j refl)
+      by false later n = later n
 
-  first_some : (js : List ℕ) (x : ℕ) → Some x ≡ slice_get js 0 → js ≡ x ∷ drop 1 js
-  first_some [] x e = absurd (none-some x (sym e))
-  first_some (j ∷ js) x e = ap (λ k. k ∷ js) (sym (same_Some x j e))
+-- what a cursor that is passed the list p has yet to answer
+abbrev pub remaining_roots : {A : Type 0} → FieldOn A → List A → Cursor A → List ℕ
+remaining_roots F p c = filter (is_root F p c.base) (range_with_len c.next (c.order - c.next))
 
-  first_none : (js : List ℕ) → ((x : ℕ) → ¬ (slice_get js 0 ≡ Some x)) → js ≡ []
-  first_none [] never = refl
-  first_none (j ∷ js) never = absurd (never j refl)
+-- A cursor is passed a list that has entries.
+module _ {A : Type 0} (F : FieldOn A) (p : List A) (some : 0 < length p) (c : Cursor A) where
+  answered : {r : Result (Option ℕ) ListFault} {o : Option ℕ} → r ≡ unless_empty (length p) (next_root F p c) → r ≡ Ok o → o ≡ next_root F p c
+  answered answer is = let given = asked_some (length p) (next_root F p c) some in cc
+
+  remains : (x : ℕ) → next_root F p c ≡ Some x → remaining_roots F p c ≡ x ∷ remaining_roots F p (cursor_after c (Ok (Some x)))
+  remains x e = by (c.order - c.next) refl e
+    where
+      by : (k : ℕ) → k ≡ c.order - c.next → find (is_root F p c.base) (range_with_len c.next k) ≡ Some x
+          → filter (is_root F p c.base) (range_with_len c.next k) ≡ x ∷ filter (is_root F p c.base) (range_with_len (x + 1) (c.order - (x + 1)))
+      by zero h q = absurd (none-some x q)
+      by (suc k) h q =
+          let many : c.next + suc k - (x + 1) ≡ c.order - (x + 1) = omega arith in
+          find_filter (is_root F p c.base) (suc k) c.next x q ∙ ap (λ m. x ∷ filter (is_root F p c.base) (range_with_len (x + 1) m)) many
 
   -- it answers an index, and has become another
-  pub next_index : (c' : Roots A) {r : Result (Option ℕ) ListFault} {o : Option ℕ} {x : ℕ} → r ≡ asked (length p) (slice_get (coming F p c) 0) → Stepped F p c c' → r ≡ Ok o → o ≡ Some x
-      → coming F p c ≡ x ∷ coming F p c'
-  next_index c' {r} {o} {x} answer s is found =
-      first_some (coming F p c) x (sym found ∙ answered answer is) ∙ ap (λ js. x ∷ js) (sym (stepped p c' some s))
+  pub next_index : (c' : Cursor A) {r : Result (Option ℕ) ListFault} {o : Option ℕ} {x : ℕ} → r ≡ unless_empty (length p) (next_root F p c) → c' ≡ cursor_after c r → r ≡ Ok o → o ≡ Some x
+      → remaining_roots F p c ≡ x ∷ remaining_roots F p c'
+  next_index c' {r} {o} {x} answer after is found =
+      remains x (sym (answered answer is) ∙ found)
+      ∙ ap (λ d. x ∷ remaining_roots F p d) (ap (cursor_after c) (sym (is ∙ ap Ok found)) ∙ sym after)
 
-  pub no_index : {r : Result (Option ℕ) ListFault} {o : Option ℕ} → r ≡ asked (length p) (slice_get (coming F p c) 0) → r ≡ Ok o → ((x : ℕ) → ¬ (o ≡ Some x)) → coming F p c ≡ []
-  no_index answer is never = first_none (coming F p c) (λ x e. never x (answered answer is ∙ e))
+  pub no_index : {r : Result (Option ℕ) ListFault} {o : Option ℕ} → r ≡ unless_empty (length p) (next_root F p c) → r ≡ Ok o → ((x : ℕ) → ¬ (o ≡ Some x)) → remaining_roots F p c ≡ []
+  no_index answer is never = find_none (is_root F p c.base) (range_with_len c.next (c.order - c.next)) (λ x e. never x (answered answer is ∙ e))
 
 -- Indices js are left, the first of which stands for p.
 module _ {Change : ℕ → ℕ → Type 0} (n : ℕ) {all : List ℕ} {before hs : List Record} (order : ℕ) {js : List ℕ} (o : Onward Change n all before (map (root_position order) js) hs) where

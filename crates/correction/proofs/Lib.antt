@@ -1,6 +1,17 @@
+pub mod Coefficients
+pub mod Doubted
+pub mod SyndromeList
+pub mod Linear
+pub mod Listed
+pub mod Locates
+pub mod RootPositions
 pub mod Indices
 pub mod Nearby
 pub mod Onward
 pub mod Proposals
 pub mod Values
 pub mod Sizes
+pub mod Checking
+pub mod Finding
+pub mod Fitted
+pub mod Lessening

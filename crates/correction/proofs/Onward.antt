@@ -1,21 +1,21 @@
--- Listing records, position by position. Assumes nothing.
+-- Listing records, position by position.
 --   Onward   records hs, with those of ps to come, are what the first ones are with those of all positions
+use Rattle.std.specs.List.{AllByRecursion}
 use Rattle.std.proofs.Common.{◌≡◌, ℕ, ◌+◌, ◌-◌, ◌<◌, ◌≤◌, Bool, true, false, List, [], ◌∷◌, ◌++◌, map, length, get_or, drop, Some, None, Option, sym, refl, ap, ◌∙◌, subst, append_assoc, append-nil, arith}
 use Rattle.std.proofs.lemmas.List.{at_drop_more, length-append, length-drop, length-map}
 use Rattle.std.proofs.lemmas.Option.{none-some}
 use Rattle.algebra.specs.Rows.{positions}
-use Rattle.algebra.specs.Series.{All}
 use Rattle.book.specs.declared.record.Record.{Record}
-use Rattle.correction.specs.Listing.{record_of, Added, Listable, Lists}
-use Rattle.book.specs.Patterns.{Pushed}
+use Rattle.correction.specs.Steps.Listing.{record_of, Adds, IsListable, Lists}
+use Rattle.correction.specs.Patterns.{Pushes}
 
-pub pushed_added : (new : Record) (before after : List Record) (r : Option (Unit {0})) → Pushed new before r after → Added new before r after
+pub pushed_added : (new : Record) (before after : List Record) (r : Option (Unit {0})) → Pushes new before r after → Adds new before r after
 pushed_added new before after None p room = let full = p.0 in absurd (omega arith)
 pushed_added new before after (Some u) p room = (refl, p)
 
 abbrev pub Onward : (ℕ → ℕ → Type 0) → ℕ → List ℕ → List Record → List ℕ → List Record → Type 0
 Onward Change n all before ps hs =
-    (Y : ℕ → ℕ) → Listable Change Y all before → Listable Change Y ps hs × (hs ++ map (record_of n Y) ps ≡ before ++ map (record_of n Y) all)
+    (Y : ℕ → ℕ) → IsListable Change Y all before → IsListable Change Y ps hs × (hs ++ map (record_of n Y) ps ≡ before ++ map (record_of n Y) all)
 
 module _ {Change : ℕ → ℕ → Type 0} (n : ℕ) {all : List ℕ} {before : List Record} where
   pub onward_all : {hs : List Record} → Onward Change n all before [] hs → Lists Change n all before (Some tt) hs
@@ -23,8 +23,8 @@ module _ {Change : ℕ → ℕ → Type 0} (n : ℕ) {all : List ℕ} {before : 
 
   -- the next position's record is added
   module _ {p : ℕ} {ps : List ℕ} {hs next : List Record} {r : Option (Unit {0})} (o : Onward Change n all before (p ∷ ps) hs)
-      (added : (y : ℕ) → Change p y → Added record { place = n - 1 - p; change = y } hs r next) where
-    step : (Y : ℕ → ℕ) → Listable Change Y all before → (r ≡ Some tt) × (next ≡ hs ++ record_of n Y p ∷ [])
+      (added : (y : ℕ) → Change p y → Adds record { place = n - 1 - p; change = y } hs r next) where
+    step : (Y : ℕ → ℕ) → IsListable Change Y all before → (r ≡ Some tt) × (next ≡ hs ++ record_of n Y p ∷ [])
     step Y l = let left = (o Y l).0 in let room = left.room in added (Y p) left.changes.0 (omega arith)
 
     pub onward_more : Onward Change n all before ps next
@@ -43,7 +43,7 @@ module _ {Change : ℕ → ℕ → Type 0} (n : ℕ) {all : List ℕ} {before : 
 
 -- one list of positions after another, from none on
 pub both_listed : (Change Change' : ℕ → ℕ → Type 0) (n : ℕ) (ps qs : List ℕ) (between after : List Record) (r t : Option (Unit {0})) (Y : ℕ → ℕ)
-    → Lists Change n ps [] r between → Lists Change' n qs between t after → All (λ p. Change p (Y p)) ps → All (λ p. Change' p (Y p)) qs → length ps + length qs ≤ 16
+    → Lists Change n ps [] r between → Lists Change' n qs between t after → AllByRecursion (λ p. Change p (Y p)) ps → AllByRecursion (λ p. Change' p (Y p)) qs → length ps + length qs ≤ 16
     → (r ≡ Some tt) × (t ≡ Some tt) × (after ≡ map (record_of n Y) ps ++ map (record_of n Y) qs)
 both_listed Change Change' n ps qs between after r t Y first second h k room =
     let one = first Y record { changes = h; room = omega arith } in
@@ -67,9 +67,9 @@ module _ (ms : List Bool) (i : ℕ) (below : i < length ms) where
     passed_over e = subst (λ ps. Onward Change (length ms) (positions ms) before ps hs) (unmarked e) o
 
     module _ (e : get_or ms i false ≡ true) {next : List Record} {r : Option (Unit {0})}
-        (added : (y : ℕ) → Change (length ms - 1 - i) y → Added record { place = i; change = y } hs r next) where
-      at_place : (y : ℕ) → Change (length ms - 1 - i) y → Added record { place = length ms - 1 - (length ms - 1 - i); change = y } hs r next
-      at_place y h = let same : i ≡ length ms - 1 - (length ms - 1 - i) = omega arith in subst (λ k. Added record { place = k; change = y } hs r next) same (added y h)
+        (added : (y : ℕ) → Change (length ms - 1 - i) y → Adds record { place = i; change = y } hs r next) where
+      at_place : (y : ℕ) → Change (length ms - 1 - i) y → Adds record { place = length ms - 1 - (length ms - 1 - i); change = y } hs r next
+      at_place y h = let same : i ≡ length ms - 1 - (length ms - 1 - i) = omega arith in subst (λ k. Adds record { place = k; change = y } hs r next) same (added y h)
 
       first_left : Onward Change (length ms) (positions ms) before ((length ms - 1 - i) ∷ positions (drop (i + 1) ms)) hs
       first_left = subst (λ ps. Onward Change (length ms) (positions ms) before ps hs) (marked e) o

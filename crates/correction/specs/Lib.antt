@@ -1,5 +1,5 @@
-pub mod Decoded
-pub mod Forney
-pub mod Listing
+pub mod Patterns
 pub mod Proposals
-pub mod Changes
+pub mod Steps
+pub mod Answers
+pub mod MendingSteps

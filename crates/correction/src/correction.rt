@@ -1,30 +1,30 @@
 // Correcting a slip's row by a code. The steps are those of BCH decoding with erasures: the syndromes, the locator of the
 // erasures, the syndromes with the erasures folded out, the shortest register that generates these, whose connection list
 // locates the errors, its roots, and at each position the change by Forney's formula.
-ghost use Rattle.std.specs.Prelude.{◌≡◌, ◌+◌, ◌*◌, ◌≤◌, length};
+ghost use Rattle.std.specs.Prelude.{◌≡◌, ◌+◌, ◌*◌, ◌≤◌, length, nat_le};
 ghost use Rattle.algebra.specs.Code.{bound};
 ghost use Rattle.book.specs.Book.{marks};
-ghost use Rattle.book.specs.Codes.{rows_of};
-ghost use Rattle.correction.specs.Decoded.{Tells};
-ghost use Rattle.correction.specs.Proposals.{Proposes, worked};
-ghost use Rattle.slip.specs.View.{Holdable};
+ghost use Rattle.correction.specs.Steps.Decoded.{Tells};
+ghost use Rattle.correction.specs.Proposals.{Proposes};
+ghost use Rattle.lists.specs.Faults.{zeros_if};
+ghost use Rattle.slip.specs.View.{IsHoldable};
 
 use crate::forney::Forney;
 use crate::listing::{list_erasures, list_errors};
 use crate::locating::{Located, locate};
+use crate::pattern::Pattern;
 use crate::syndromes::syndromes;
-use book::pattern::Pattern;
-use checksum::checksum::{Checksum, bound};
-use field::field::{ExtensionField, Field};
-use fieldvec::fieldvec::clear;
-use slip::slip::Slip;
+use checksum::{Checksum, bound};
+use fields::{ExtensionField, Field};
+use lists::fieldvec::clear;
+use slip::Slip;
 
 /// Proposes the records that mend the slip's row by a code. Wherever a row is near, they are the changes from it; where
 /// none is, they may be anything, so a proposal is to be checked. The working list has 12 × (bound + 2) entries at least: it is
 /// cut into parts from its front, which are lent on, and is all ZERO after. Nothing is proposed where it is shorter.
 pub fn bch_errors<C: Checksum>(slip: &Slip, work: &mut [C::CorrectionField]) -> Option<Pattern>
-    ensures proposes { Proposes (rows_of C.SymbolField.Field.numbers C.SymbolField.Field.field C.Checksum.code) slip.now (length work.old) result }
-    ensures after { work.new ≡ worked C.CorrectionField.Field.field (bound C.Checksum.code) work.old }
+    ensures proposes { Proposes C.rows slip.now (length work.old) result }
+    ensures after { work.new ≡ zeros_if C.CorrectionField.field (nat_le (12 * (bound C.code + 2)) (length work.old)) work.old }
 {
     C::laws();
     C::CorrectionField::lift_laws();
@@ -45,10 +45,10 @@ fn propose<C: Checksum>(
     s: &[C::CorrectionField],
     work: &mut [C::CorrectionField],
 ) -> Option<Pattern>
-    requires syndromes { length s.now ≡ bound C.Checksum.code }
+    requires syndromes { length s.now ≡ bound C.code }
     requires room { 8 * (length s.now + 2) ≤ length work.old }
-    ensures tells { Tells C.CorrectionField.Field.field C.CorrectionField.ExtensionField.lifted C.SymbolField.Field.numbers s.now (marks slip.now) C.Checksum.code.root C.Checksum.code.first result }
-    ensures holdable { Holdable slip.now }
+    ensures tells { Tells C.CorrectionField.field C.CorrectionField.lifted C.SymbolField.numbers s.now (marks slip.now) C.code.root C.code.first result }
+    ensures holdable { IsHoldable slip.now }
 {
     C::laws();
     let marks = slip.marks();
@@ -56,8 +56,8 @@ fn propose<C: Checksum>(
     if doubts > s.len() {
         return None;
     }
-    let root = C::root_generator();
-    let (first, _) = C::root_exponents();
+    let root = C::ROOT_GENERATOR;
+    let (first, _) = C::ROOT_EXPONENTS;
     let Located {
         errors,
         evaluator,

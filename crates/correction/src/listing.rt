@@ -3,16 +3,16 @@ ghost use Rattle.std.specs.Prelude.{◌≡◌, ℕ, ◌<◌, ◌≤◌, map, len
 ghost use Rattle.algebra.specs.Decode.{root_position};
 ghost use Rattle.algebra.specs.Field.{HasOrder};
 ghost use Rattle.algebra.specs.Rows.{positions};
-ghost use Rattle.correction.specs.Changes.{ChangeAt};
-ghost use Rattle.correction.specs.Listing.{Added, Lists, OnRow};
-ghost use Rattle.polynomial.specs.Roots.{roots as root_indices};
+ghost use Rattle.correction.specs.Steps.Changes.{HasChangeAt};
+ghost use Rattle.correction.specs.Steps.Listing.{Adds, Lists, IsOnRow};
+ghost use Rattle.lists.specs.Roots.{roots as root_indices};
 
 use crate::forney::Forney;
-use book::pattern::Pattern;
-use book::record::Record;
-use field::field::{ExtensionField, Field};
-use field::powers::multiplicative_order;
-use polynomial::polynomial::find_nonzero_distinct_roots;
+use crate::pattern::Pattern;
+use book::Record;
+use fields::powers::multiplicative_order;
+use fields::{ExtensionField, Field};
+use lists::find_nonzero_distinct_roots;
 
 // The record of a place more, none where its change cannot be had or where there is no room for it.
 fn list_place<E: ExtensionField>(
@@ -21,7 +21,7 @@ fn list_place<E: ExtensionField>(
     position: usize,
     pattern: &mut Pattern,
 ) -> Option<()>
-    ensures { (y : ℕ) → ChangeAt forney.now position y → Added record { place = place; change = y } pattern.old result pattern.new }
+    ensures { (y : ℕ) → HasChangeAt forney.now position y → Adds record { place = place; change = y } pattern.old result pattern.new }
 {
     let change = forney.change_at(position)?;
     pattern.push(Record { place, change })
@@ -33,7 +33,7 @@ pub(crate) fn list_erasures<E: ExtensionField>(
     marks: &[bool],
     pattern: &mut Pattern,
 ) -> Option<()>
-    ensures { Lists (ChangeAt forney.now) (length marks.now) (positions marks.now) pattern.old result pattern.new }
+    ensures { Lists (HasChangeAt forney.now) (length marks.now) (positions marks.now) pattern.old result pattern.new }
 {
     for (place, marked) in marks.iter().enumerate() {
         if *marked {
@@ -62,7 +62,7 @@ pub(crate) fn list_errors<E: ExtensionField>(
     pattern: &mut Pattern,
 ) -> Option<()>
     requires { 0 < length locator.now }
-    ensures { (ord : ℕ) → HasOrder E.Field.field forney.now.root ord → Lists (OnRow len (ChangeAt forney.now)) len (map (root_position ord) (root_indices E.Field.field locator.now forney.now.root ord)) pattern.old result pattern.new }
+    ensures { (ord : ℕ) → HasOrder E.field forney.now.root ord → Lists (IsOnRow len (HasChangeAt forney.now)) len (map (root_position ord) (root_indices E.field locator.now forney.now.root ord)) pattern.old result pattern.new }
 {
     let order = multiplicative_order(forney.root).unwrap();
     let mut roots = find_nonzero_distinct_roots(forney.root).unwrap();

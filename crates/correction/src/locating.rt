@@ -5,16 +5,16 @@ ghost use Rattle.std.specs.Prelude.{◌≡◌, ◌+◌, ◌-◌, ◌*◌, ◌<�
 ghost use Rattle.algebra.specs.Decode.{error_locator, errata_locator, errata_evaluator};
 ghost use Rattle.algebra.specs.Field.{pow};
 ghost use Rattle.algebra.specs.Poly.{coeff, eval};
-ghost use Rattle.algebra.specs.Rows.{count, positions};
-ghost use Rattle.algebra.specs.Series.{deriv, lin, locator};
-ghost use Rattle.lfsr.specs.Registers.{connection};
-ghost use Rattle.polynomial.specs.Lists as spec;
+ghost use Rattle.algebra.specs.Rows.{count_true, positions};
+ghost use Rattle.algebra.specs.Series.{deriv, times_linear, locator};
+ghost use Rattle.lists.specs.Registers.{connection_list};
+ghost use Rattle.lists.specs.Lists as spec;
 
-use field::arithmetic::difference;
-use field::field::Field;
-use lfsr::lfsr::berlekamp_massey;
-use polynomial::polynomial::formal_derivative;
-use products::products::{convolution, mul_mod_x_d};
+use fields::Field;
+use fields::arithmetic::difference;
+use lists::berlekamp_massey;
+use lists::polynomial::formal_derivative;
+use lists::products::{convolution, mul_mod_x_d};
 use std::mem;
 
 /// What decoding finds: the error locator, and the evaluator and the derivative of the locator of errors and erasures.
@@ -27,26 +27,26 @@ pub(crate) struct Located<'a, E> {
 // The list, its last entry aside, times 1 - x z.
 fn times_linear<F: Field>(list: &mut [F], x: F)
     requires { 0 < length list.old }
-    ensures { list.new ≡ lin F.field x (take (length list.old - 1) list.old) }
+    ensures { list.new ≡ times_linear F.field x (take (length list.old - 1) list.old) }
 {
     let (top, list) = list.split_last_mut().unwrap();
-    let mut below = F::zero();
+    let mut below = F::ZERO;
     for entry in list.iter_mut() {
         let next = difference(*entry, x.mul(below));
         below = mem::replace(entry, next);
     }
-    *top = difference(F::zero(), x.mul(below));
+    *top = difference(F::ZERO, x.mul(below));
 }
 
 // The product of 1 - a^p z over the positions p that are marked, the last place being position 0.
 fn erasure_locator<'a, F: Field>(marks: &[bool], a: F, list: &'a mut [F]) -> &'a [F]
-    requires { count marks.now < length list.old }
+    requires { count_true marks.now < length list.old }
     ensures list { result.now ≡ locator F.field (pow F.field a) (positions marks.now) }
-    ensures size { length result.now ≡ count marks.now + 1 }
+    ensures size { length result.now ≡ count_true marks.now + 1 }
 {
-    list[0] = F::one();
+    list[0] = F::ONE;
     let mut len = 1;
-    let mut power = F::one();
+    let mut power = F::ONE;
     for marked in marks.iter().rev() {
         if *marked {
             len += 1;
@@ -62,7 +62,7 @@ fn erasure_locator<'a, F: Field>(marks: &[bool], a: F, list: &'a mut [F]) -> &'a
 fn folded_syndromes<'a, F: Field>(erasures: &[F], s: &[F], list: &'a mut [F]) -> &'a [F]
     requires given { 0 < length erasures.now }
     requires room { length s.now < length list.old }
-    ensures list { result.now ≡ spec.convolved F.field erasures.now s.now }
+    ensures list { result.now ≡ spec.convolution F.field erasures.now s.now }
     ensures some { 0 < length result.now }
 {
     let n = convolution(erasures, s, list).unwrap();
@@ -75,7 +75,7 @@ fn connection_list<'a, F: Field>(terms: &[F], list: &'a mut [F], second: &mut [F
     requires given { 0 < length terms.now }
     requires room { length terms.now < length list.old }
     requires second { 2 * (length terms.now + 1) ≤ length second.old }
-    ensures list { result.now ≡ connection F.field terms.now }
+    ensures list { result.now ≡ connection_list F.field terms.now }
     ensures some { 0 < length result.now }
 {
     let n = berlekamp_massey(terms, list, second).unwrap();
@@ -88,7 +88,7 @@ fn product<'a, F: Field>(p: &[F], q: &[F], d: usize, list: &'a mut [F]) -> &'a [
     requires left { 0 < length p.now }
     requires right { 0 < length q.now }
     requires room { min d (length p.now + length q.now) ≤ length list.old }
-    ensures list { result.now ≡ spec.product F.field p.now q.now d }
+    ensures list { result.now ≡ spec.mul_mod_x_d F.field p.now q.now d }
     ensures some { 0 < d → 0 < length result.now }
 {
     let n = mul_mod_x_d(p, q, d, list).unwrap();
@@ -100,7 +100,7 @@ fn product<'a, F: Field>(p: &[F], q: &[F], d: usize, list: &'a mut [F]) -> &'a [
 fn derivative_of<'a, F: Field>(p: &[F], list: &'a mut [F]) -> &'a [F]
     requires given { 0 < length p.now }
     requires room { length p.now ≤ length list.old + 1 }
-    ensures { result.now ≡ spec.derivative F.field p.now }
+    ensures { result.now ≡ spec.formal_derivative F.field p.now }
 {
     let n = formal_derivative(p, list).unwrap();
     &list[..n]
@@ -115,7 +115,7 @@ pub(crate) fn locate<'a, F: Field>(
     a: F,
     work: &'a mut [F],
 ) -> Located<'a, F>
-    requires few { count marks.now ≤ length s.now }
+    requires few { count_true marks.now ≤ length s.now }
     requires some { 1 ≤ length s.now }
     requires short { length s.now ≤ 16 }
     requires nonzero { a ≢ F.field.𝟘 }

@@ -3,7 +3,7 @@ use Rattle.std.proofs.Common.{◌≡◌, ℕ, ◌+◌, ◌<◌, ◌≤◌, List,
 use Rattle.std.proofs.Output.{then_text_assoc}
 use Rattle.std.specs.Fmt.{◌++?◌}
 use Rattle.std.proofs.lemmas.List.{take_more, take_all}
-use Rattle.replay.specs.Elements.{after_commas, commas_before, listed, with_commas}
+use Rattle.replay.specs.Elements.{after_commas, commas_before, decimal_list, with_commas}
 
 nothing_round : (text : Option (List ℕ)) → text ++? Some [] ≡ Some [] ++? text
 nothing_round None = refl
@@ -27,9 +27,9 @@ commas_before_numbers [] = refl
 commas_before_numbers (n ∷ ns) = rw (commas_before_numbers ns) refl
 
 -- numbers print as a list of numbers
-numbers_listed : (numbers : List ℕ) → with_commas (λ n. Some (decimal n)) numbers ≡ Some (listed numbers)
+numbers_listed : (numbers : List ℕ) → with_commas (λ n. Some (decimal n)) numbers ≡ Some (decimal_list numbers)
 numbers_listed [] = refl
 numbers_listed (n ∷ ns) = rw (commas_before_numbers ns) refl
 
-pub printed_numbers : (text numbers : List ℕ) → IfSome (with_commas (λ n. Some (decimal n)) numbers) (λ bytes. text ≡ bytes) → text ≡ listed numbers
+pub printed_numbers : (text numbers : List ℕ) → IfSome (with_commas (λ n. Some (decimal n)) numbers) (λ bytes. text ≡ bytes) → text ≡ decimal_list numbers
 printed_numbers text numbers printed = rw (numbers_listed numbers) at printed

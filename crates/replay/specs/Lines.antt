@@ -1,4 +1,4 @@
--- What a line of recorded answers says, and how an answer differs from the one that it owes. Assumes nothing.
+-- What a line of recorded answers says, and how an answer differs from the one that it owes.
 use Rattle.std.specs.Prelude.{◌≡◌, ◌≢◌, ℕ, List, Option, None, Result, Ok, Err, ◌⊎◌, codes, MatchOption}
 use Rattle.std.specs.Str.{trim}
 use Rattle.std.specs.Str.Pattern.{FindsText, SplitsAroundMatch}
@@ -25,7 +25,7 @@ IsOwed answers owed = (Lacks instead answers × (owed ≡ trim answers))
     ⊎ ((theirs : List ℕ) × (ours : List ℕ) × IsCut instead answers theirs ours × (owed ≡ trim ours))
 
 -- the line has the command before the first " = ", and owes the answer
-pub record Records (line command owed : List ℕ) : Type 0 where
+pub record IsRecord (line command owed : List ℕ) : Type 0 where
   pub answers : List ℕ
   pub cut : IsCut equals line command answers
   pub owes : IsOwed answers owed
@@ -35,10 +35,10 @@ module _ {Answer Fault : Type 0} (bytes : Answer → List ℕ) (Gives : Bor (Lis
   -- the line's command was answered, and the answer is there where its text is not the one that is owed
   abbrev pub IsDifference : Option Answer → Type 0
   IsDifference difference = (command : Bor (List ℕ)) × (owed : List ℕ) × (ours : Answer)
-      × Records line command.now owed × Gives command (Ok ours)
+      × IsRecord line command.now owed × Gives command (Ok ours)
       × MatchOption difference (bytes ours ≡ owed) (λ other. (other ≡ ours) × (bytes ours ≢ owed))
 
 module _ {Answer Fault : Type 0} (Gives : Bor (List ℕ) → Result Answer Fault → Type 0) (line : List ℕ) where
   -- the line has no answer, or its command is answered with a fault
   abbrev pub HasNoAnswer : Fault → Type 0
-  HasNoAnswer fault = Lacks equals line ⊎ ((command : Bor (List ℕ)) × (owed : List ℕ) × Records line command.now owed × Gives command (Err fault))
+  HasNoAnswer fault = Lacks equals line ⊎ ((command : Bor (List ℕ)) × (owed : List ℕ) × IsRecord line command.now owed × Gives command (Err fault))

@@ -2,7 +2,7 @@
 // `COMMAND = ANSWER ! OURS`, where our rules ask for another; a line that begins with # is passed over.
 // No contract can say what a program reads or prints, so the contracts here are those of one line.
 ghost use Rattle.std.specs.Prelude.{MatchOption, MatchResult, string_bytes};
-ghost use Rattle.replay.specs.Lines.{Lacks, Records, IsOwed, IsDifference, HasNoAnswer, equals};
+ghost use Rattle.replay.specs.Lines.{Lacks, IsRecord, IsOwed, IsDifference, HasNoAnswer, equals};
 
 use anyhow::Context;
 use std::alloc::Global;
@@ -24,7 +24,7 @@ fn owed(answers: &str) -> &str
 }
 
 fn read_line(line: &str) -> Option<Recorded<'_>>
-    ensures { MatchOption result (Lacks equals line.now) (λ r. Records line.now r.command.now r.owed.now) }
+    ensures { MatchOption result (Lacks equals line.now) (λ r. IsRecord line.now r.command.now r.owed.now) }
 {
     let (command, answers) = line.split_once(" = ")?;
     Some(Recorded {

@@ -7,17 +7,15 @@
 #![tactic(auto)]
 
 use anyhow::{Context, anyhow};
-use book::code_fault::CodeFault;
-use book::record::{BLANK, Record};
-use checksum::checksum::Checksum;
-use codes::bech32::Bech32;
-use codes::finish::Finish;
-use field::field::Field;
-use mending::mending::{settle, solve};
+use book::{BLANK, CodeFault, Record};
+use checksum::{Bech32, Checksum, Finish};
+use correction::{settle, solve};
+use fields::Field;
 use replay::commas::WithCommas;
 use replay::lines::replay;
 use replay::outcomes::write_outcome;
-use slip::slip::Slip;
+use sheet::refusal_number;
+use slip::Slip;
 use std::alloc::Global;
 use std::fmt;
 use std::fmt::Display;
@@ -97,18 +95,20 @@ fn listed(
 
 // The answer of a solve and of a settle, which have to list the same.
 fn answer_by<C: Checksum>(heap: Global, slip: &mut Slip) -> anyhow::Result<String> {
-    let mut work = vec![in heap; C::CorrectionField::zero(); WORKING]?;
+    let mut work = vec![in heap; C::CorrectionField::ZERO; WORKING]?;
     let mut records = [BLANK; RECORDS];
     let outcome = solve::<C>(slip, &mut records, work.as_mut_slice());
     let solved = listed(outcome, &records);
-    let list = write_outcome(heap, solved)?;
+    let list = write_outcome(heap, solved.map_err(refusal_number))?;
     let symbols = slip.len();
     let original = match solved {
         Ok(listing) => ByPosition { listing, symbols }.to_string(heap)?,
         Err(_) => String::from_str(heap, "none")?,
     };
     let settled = settle::<C>(slip, &mut records, work.as_mut_slice());
-    if write_outcome(heap, listed(settled, &records))?.as_str() != list.as_str() {
+    if write_outcome(heap, listed(settled, &records).map_err(refusal_number))?.as_str()
+        != list.as_str()
+    {
         return Err(anyhow!("a settle that lists otherwise than a solve"));
     }
     let row = match settled {

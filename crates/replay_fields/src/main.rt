@@ -4,27 +4,27 @@
 //     powi muli          of an element and a whole number
 //     neg inv order      of an element
 //     lift drop          of an element of GF(32), and to one; drop answers none where there is none
+//     powers             of an element, from one exponent to another
+//     powersnth          of an element and a number: the power that a cursor answers after so many others
+//     rangenth           the same by a cursor from one exponent to another, none past the last
+//     consts             of nothing: ZERO, ONE, the generator, the order and its divisors
 // A refusal is written by its number.
 #![tactic(auto)]
 
+mod powers;
+
 use anyhow::{Context, anyhow};
-use field::arithmetic::{difference, muli, quotient};
-use field::field::{ExtensionField, Field};
-use field::powers::{multiplicative_order, powi};
-use gf32::gf32::Fe32;
-use gf32_ext::fe1024::Fe1024;
-use gf32768::fe32768::Fe32768;
+use fields::arithmetic::{difference, muli, quotient};
+use fields::powers::{multiplicative_order, powi};
+use fields::{ExtensionField, Fe32, Fe1024, Fe32768, Field};
+use powers::{
+    write_constants, write_optional, write_power_after, write_power_between, write_powers,
+};
 use replay::elements::{ByNumber, read_element, write_element};
 use replay::lines::replay;
 use replay::outcomes::write_outcome;
+use sheet::refusal_number;
 use std::alloc::Global;
-
-fn write_dropped(heap: Global, dropped: Option<Fe32>) -> anyhow::Result<String> {
-    match dropped {
-        Some(element) => write_element(heap, element),
-        None => Ok(String::from_str(heap, "none")?),
-    }
-}
 
 fn answer_of_one<E: ExtensionField<BaseField = Fe32>>(
     heap: Global,
@@ -37,9 +37,15 @@ fn answer_of_one<E: ExtensionField<BaseField = Fe32>>(
     let element: E = read_element(argument)?;
     match operation {
         "neg" => write_element(heap, element.neg()),
-        "inv" => write_outcome(heap, element.multiplicative_inverse().map(ByNumber)),
-        "order" => write_outcome(heap, multiplicative_order(element)),
-        "drop" => write_dropped(heap, element.drop_to_base()),
+        "inv" => write_outcome(
+            heap,
+            element
+                .multiplicative_inverse()
+                .map(ByNumber)
+                .map_err(refusal_number),
+        ),
+        "order" => write_outcome(heap, multiplicative_order(element).map_err(refusal_number)),
+        "drop" => write_optional(heap, element.drop_to_base()),
         _ => Err(anyhow!("an unknown operation of one argument")),
     }
 }
@@ -56,21 +62,69 @@ fn answer_of_two<F: Field>(
         "mul" => write_element(heap, element.mul(read_element(argument)?)),
         "div" => write_outcome(
             heap,
-            quotient(element, read_element(argument)?).map(ByNumber),
+            quotient(element, read_element(argument)?)
+                .map(ByNumber)
+                .map_err(refusal_number),
         ),
-        "powi" => write_outcome(heap, powi(element, argument.parse::<i64>()?).map(ByNumber)),
+        "powi" => write_outcome(
+            heap,
+            powi(element, argument.parse::<i64>()?)
+                .map(ByNumber)
+                .map_err(refusal_number),
+        ),
         "muli" => write_element(heap, muli(element, argument.parse::<i64>()?)),
+        "powersnth" => write_power_after(heap, element, argument.parse::<usize>()?),
         _ => Err(anyhow!("an unknown operation of two arguments")),
+    }
+}
+
+// The numbers of a range of exponents, and the rest.
+fn read_range(text: &str) -> anyhow::Result<(usize, usize)> {
+    let (first, last) = text.split_once(' ').context("a range without an end")?;
+    Ok((first.parse::<usize>()?, last.parse::<usize>()?))
+}
+
+fn answer_of_three<F: Field>(
+    heap: Global,
+    operation: &str,
+    element: F,
+    arguments: &str,
+) -> anyhow::Result<String> {
+    match operation {
+        "powers" => {
+            let (first, last) = read_range(arguments)?;
+            write_powers(heap, element, first, last)
+        }
+        "rangenth" => {
+            let (range, n) = arguments
+                .rsplit_once(' ')
+                .context("a range without a number")?;
+            let (first, last) = read_range(range)?;
+            write_power_between(heap, element, first, last, n.parse::<usize>()?)
+        }
+        _ => Err(anyhow!("an unknown operation of more arguments")),
     }
 }
 
 fn answer_in<E: ExtensionField<BaseField = Fe32>>(
     heap: Global,
-    operation: &str,
-    arguments: &str,
+    command: &str,
 ) -> anyhow::Result<String> {
+    if command == "consts" {
+        return write_constants::<E>(heap);
+    }
+    let (operation, arguments) = command
+        .split_once(' ')
+        .context("a command without an argument")?;
     match arguments.split_once(' ') {
-        Some((first, second)) => answer_of_two::<E>(heap, operation, read_element(first)?, second),
+        Some((first, rest)) => {
+            let element: E = read_element(first)?;
+            if rest.contains(' ') {
+                answer_of_three(heap, operation, element, rest)
+            } else {
+                answer_of_two(heap, operation, element, rest)
+            }
+        }
         None => answer_of_one::<E>(heap, operation, arguments),
     }
 }
@@ -82,14 +136,11 @@ fn answer(heap: Global, command: &str) -> anyhow::Result<String> {
     let (size, rest) = rest
         .split_once(' ')
         .context("a command without an operation")?;
-    let (operation, arguments) = rest
-        .split_once(' ')
-        .context("a command without an argument")?;
     match size {
         // A match in each program: what differs is an argument of type, which no value can carry.
-        "32" => answer_in::<Fe32>(heap, operation, arguments),
-        "1024" => answer_in::<Fe1024>(heap, operation, arguments),
-        "32768" => answer_in::<Fe32768>(heap, operation, arguments),
+        "32" => answer_in::<Fe32>(heap, rest),
+        "1024" => answer_in::<Fe1024>(heap, rest),
+        "32768" => answer_in::<Fe32768>(heap, rest),
         _ => Err(anyhow!("an unknown field")),
     }
 }

@@ -1,14 +1,12 @@
 // Replays recorded answers on rows, by each code that the library has. The commands:
 //     E CODE ROW    the row's residue, lowest power first
 //     S CODE ROW    the check symbols that seal the row, in order
+//     L CODE        the most symbols that a row may have
 #![tactic(auto)]
 
 use anyhow::{Context, anyhow};
-use checksum::checksum::Checksum;
-use checksum::engine::{Engine, seal};
-use codes::bech32::Bech32;
-use codes::finish::Finish;
-use gf32::gf32::Fe32;
+use checksum::{Bech32, Checksum, Engine, Finish, seal};
+use fields::Fe32;
 use replay::elements::{read_elements, write_elements};
 use replay::lines::replay;
 use std::alloc::Global;
@@ -21,13 +19,15 @@ fn answer_by<C: Checksum<SymbolField = Fe32>>(
     match letter {
         "E" => write_elements(heap, Engine::<C>::of_row(row).residue()),
         "S" => write_elements(heap, seal::<C>(row).symbols()),
+        "L" => Ok(C::CODE_LENGTH.to_string(heap)?),
         _ => Err(anyhow!("an unknown command")),
     }
 }
 
 fn answer(heap: Global, command: &str) -> anyhow::Result<String> {
     let (letter, rest) = command.split_once(' ').context("a command without a code")?;
-    let (code, row) = rest.split_once(' ').context("a command without a row")?;
+    // A command without a row has the empty one.
+    let (code, row) = rest.split_once(' ').unwrap_or((rest, "-"));
     let row = read_elements(heap, row)?;
     match code {
         "finish" => answer_by::<Finish>(heap, letter, row.as_slice()),

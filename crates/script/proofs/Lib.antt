@@ -1,4 +1,4 @@
 pub mod Answered
-pub mod Lent
+pub mod LentLists
 pub mod Sets
 pub mod Stories

@@ -1,8 +1,8 @@
 // What a solve or a settle lists.
 ghost use Rattle.std.specs.Prelude.{◌≡◌};
 
-use book::pattern::Pattern;
-use book::record::Record;
+use book::Record;
+use correction::Pattern;
 
 /// The records of a mended row, at most sixteen, and how many of them change something.
 #[derive(Clone, Copy)]

@@ -1,20 +1,17 @@
 // Running a script.
-ghost use Rattle.std.specs.Prelude.{◌≡◌, length};
-ghost use Rattle.book.specs.Calls.{Follows, solve, settle};
-ghost use Rattle.book.specs.Promise.{Promise};
-ghost use Rattle.mending.specs.Answers.{told_list};
-ghost use Rattle.script.specs.Script.{asked, heard, Few, Stories, FreshStories, Decided, Untouched};
+ghost use Rattle.std.specs.Prelude.{length};
+ghost use Rattle.book.specs.Calls.{IsDecided};
+ghost use Rattle.book.specs.Promise.{KeepsPromise};
+ghost use Rattle.script.specs.declared.script.Call.{Call};
+ghost use Rattle.script.specs.Script.{book_call, LeadsEachSlip, LeadsEachFreshSlip, LeavesReplies};
 
+use crate::call::call;
 use crate::codes::CodeSet;
-use crate::listing::Listing;
-use crate::script::{Answer, Ask, Lent, Reply, Turn};
-use book::code_fault::CodeFault;
-use book::pattern::Pattern;
-use book::record::{BLANK, Record};
-use slip::slip::Slip;
+use crate::script::{Reply, Step};
+use slip::Slip;
 
-/// Runs a script: makes the turns' calls one after another, each on the slip that its turn names, and puts each answer
-/// at its turn's place among the replies. A turn that names no slip is passed over; where replies are fewer than turns,
+/// Runs a script: makes the calls of the steps one after another, each on the slip that its step names, and puts each answer
+/// at its step's place among the replies. A step that names no slip is passed over; where replies are fewer than steps,
 /// the script stops there.
 ///
 /// For each slip, the calls on it and their replies lead from the book that it held to the book that it holds; from
@@ -23,72 +20,25 @@ use slip::slip::Slip;
 /// doubt never leads to another row.
 pub fn run<K: CodeSet>(
     slips: &mut [Slip],
-    turns: &[Turn<K>],
+    steps: &[Step<K>],
     replies: &mut [Reply],
-    desk: &mut K::Desk,
+    workspace: &mut K::Workspace,
 )
-    ensures stories { Stories K.CodeSet.rows slips.old turns.now replies.new slips.new }
-    ensures fresh { FreshStories K.CodeSet.rows slips.old turns.now replies.new slips.new }
-    ensures decided { Decided K.CodeSet.rows }
-    ensures promise { (k : K) → Promise (K.CodeSet.rows k) }
-    ensures untouched { Untouched (length slips.old) turns.now replies.old replies.new }
+    ensures stories { LeadsEachSlip K.codes slips.old steps.now replies.new slips.new }
+    ensures fresh { LeadsEachFreshSlip K.codes slips.old steps.now replies.new slips.new }
+    ensures decided { (call : Call K) → IsDecided (book_call K.codes call) }
+    ensures promise { (k : K) → KeepsPromise (K.codes k) }
+    ensures clear { K.clear workspace.old → K.clear workspace.new }
+    ensures untouched { LeavesReplies (length slips.old) steps.now replies.old replies.new }
 {
     K::laws();
+    K::stays_clear();
     // Slips and replies are reached by their numbers: after a slice's `get_mut`, or an `iter_mut` in a `zip`, nothing is known
     // of what the slice holds, so that neither the stories nor the untouched replies could be told.
-    let steps = turns.len().min(replies.len());
-    for (i, turn) in turns[..steps].iter().enumerate() {
-        if turn.slip < slips.len() {
-            replies[i] = answer(&mut slips[turn.slip], turn.ask, desk);
+    let count = steps.len().min(replies.len());
+    for (i, step) in steps[..count].iter().enumerate() {
+        if step.slip < slips.len() {
+            replies[i] = call(&mut slips[step.slip], step.call, workspace);
         }
     }
-}
-
-// Makes one call on a slip.
-fn answer<K: CodeSet>(slip: &mut Slip, ask: Ask<K>, desk: &mut K::Desk) -> Reply
-    ensures { Follows slip.old (asked K.CodeSet.rows ask) (heard result) slip.new }
-{
-    match ask {
-        Ask::Write(v) => slip.write(v)?,
-        Ask::Blank => slip.blank()?,
-        Ask::Doubt(place) => slip.doubt(place)?,
-        Ask::Wipe => slip.wipe(),
-        Ask::Seal(code) => code.seal(slip)?,
-        Ask::Solve(code, lent) => return solve_turn(slip, code, lent, desk),
-        Ask::Settle(code, lent) => return settle_turn(slip, code, lent, desk),
-    }
-    Ok(Answer::Done)
-}
-
-// A solve that is lent records in fixed memory: no code lists more than sixteen.
-fn solve_turn<K: CodeSet>(slip: &Slip, code: K, lent: Lent, desk: &mut K::Desk) -> Reply
-    ensures { Follows slip.now (solve (K.CodeSet.rows code) lent.records lent.working) (heard result) slip.now }
-{
-    K::laws();
-    let mut records = [BLANK; 16];
-    let room = lent.records.min(16);
-    let found = code.solve(slip, &mut records[..room], lent.working, desk);
-    reply(found, &records)
-}
-
-// The same of a settle. The two are not one function that takes the call as a closure: it would have to require of the call
-// that it lists no more than it is lent, and to tell what became of the slip that only one of them changes.
-fn settle_turn<K: CodeSet>(slip: &mut Slip, code: K, lent: Lent, desk: &mut K::Desk) -> Reply
-    ensures { Follows slip.old (settle (K.CodeSet.rows code) lent.records lent.working) (heard result) slip.new }
-{
-    K::laws();
-    let mut records = [BLANK; 16];
-    let room = lent.records.min(16);
-    let found = code.settle(slip, &mut records[..room], lent.working, desk);
-    reply(found, &records)
-}
-
-// What is told of a search by its answer and by the records that it was lent.
-fn reply(found: Result<(usize, usize), CodeFault>, records: &[Record; 16]) -> Reply
-    requires { Few found }
-    ensures { heard result ≡ told_list found records.now }
-{
-    let (written, nonzero) = found?;
-    let listed = Pattern::from_slice(&records[..written]).unwrap();
-    Ok(Answer::Listed(Listing::new(listed, nonzero)))
 }

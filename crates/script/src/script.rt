@@ -1,6 +1,6 @@
 // What is asked of slips, and what they answer.
 use crate::listing::Listing;
-use field::fault::Refusal;
+use book::CallFault;
 
 /// How much memory a call is lent.
 #[derive(Clone, Copy)]
@@ -13,7 +13,7 @@ pub struct Lent {
 
 /// A call on a slip, with its arguments. K is a set of codes: a value of it names the code of the call.
 #[derive(Clone, Copy)]
-pub enum Ask<K> {
+pub enum Call<K> {
     /// Append a symbol.
     Write(u8),
     /// Append a place whose symbol was not understood.
@@ -32,9 +32,9 @@ pub enum Ask<K> {
 
 /// One step of a script: a call, and the number of the slip that it is made on.
 #[derive(Clone, Copy)]
-pub struct Turn<K> {
+pub struct Step<K> {
     pub slip: usize,
-    pub ask: Ask<K>,
+    pub call: Call<K>,
 }
 
 /// What a call tells that was done. No `Option` of a listing: a call that lists nothing was done all the same, and says so by name.
@@ -47,4 +47,4 @@ pub enum Answer {
 }
 
 /// What a call answers. Where it is refused, the slip is as it was.
-pub type Reply = Result<Answer, Refusal>;
+pub type Reply = Result<Answer, CallFault>;

@@ -1,107 +1,75 @@
--- A line that is taken makes the calls that it stands for.
-use Rattle.std.proofs.Common.{◌≡◌, ℕ, ◌+◌, Bool, true, false, cond, eqb, List, [], ◌∷◌, ◌++◌, Some, None, Ok, Err, Option, Result, sym, refl, ap, ◌∙◌, append_assoc, arith}
+-- A line that is taken makes the calls of its pieces.
+use Rattle.std.proofs.Common.{◌≡◌, ℕ, ◌+◌, Bool, true, false, cond, eqb, List, [], ◌∷◌, ◌++◌, Some, None, Ok, Err, Option, Result, sym, refl, ap, ◌∙◌, subst, arith}
 use Rattle.std.specs.List.{flat_map}
-use Rattle.std.proofs.lemmas.List.{flat_map_more}
 use Rattle.std.proofs.lemmas.Bool.{eqb-true}
 use Rattle.book.specs.Book as book
-use Rattle.book.specs.Book.{Book, answer, after, fresh}
-use Rattle.book.specs.Calls as booked
-use Rattle.book.specs.Calls.{Follows, said, done, writes, blanks, wipes}
-use Rattle.book.specs.SlipFaults as slip
+use Rattle.book.specs.Book.{Book, answer_of, book_after, fresh_book}
+use Rattle.book.specs.Calls.{BookCall, Follows, plain_answer, done, wipe, write, blank, writes, blanks, wipes}
+use Rattle.book.specs.declared.call_fault.CallFault.TheVariants.{Slip as of_slip}
 use Rattle.book.specs.Story.{Leads}
 use Rattle.book.specs.declared.slip_fault.SlipFault.{SlipFault}
-use Rattle.typed.specs.Pieces.{Part, remark, closed, pieces_after}
-use Rattle.sheet.specs.BookCalls.{all_done, in_book}
-use Rattle.sheet.specs.Calls.{Call, wipe, write, blank, made_all, call_of, calls_of, calls_of_bytes, calls_of_part}
-use Rattle.sheet.specs.Characters.{character_of}
-use Rattle.sheet.specs.Taking.{before_slash, is_other, line_case, at_byte, and_then, entered, taken_all, take_line}
+use Rattle.sheet.specs.Pieces.{Part, group, remark, pieces}
+use Rattle.sheet.specs.Calls.{all_done, call_of, calls_of, calls_of_bytes, calls_of_part}
+use Rattle.sheet.specs.Characters.{read_character}
+use Rattle.sheet.specs.Taking.{before_slash, is_other_case, line_case, refused_as, fault_at, and_then, book_after_character, book_after_bytes, book_after_parts, take_line}
 use Rattle.sheet.specs.declared.characters.Character.{Character}
 use Rattle.sheet.specs.declared.characters.Character.TheVariants.{Symbol, QuestionMark}
 use Rattle.sheet.specs.declared.characters.Case.{Case}
 use Rattle.sheet.specs.declared.fault.LineFault.{LineFault}
-use Rattle.sheet.specs.declared.fault.LineFault.TheVariants.{OtherCase}
+use Rattle.sheet.specs.declared.taking.ByteFault.{ByteFault}
+use Rattle.sheet.specs.declared.taking.ByteFault.TheVariants.{OnSlip, OtherCase}
 use Rattle.sheet.proofs.BytesTaken.{accepted, refused}
 
 never : {X : Type 0} (fault : LineFault) (b : Book) → ◌≡◌ {A = Result Book LineFault} (Err fault) (Ok b) → X
 never fault b e = let z : ◌≡◌ {A = ℕ} 0 1 = cc in absurd (omega arith)
 
 -- a space says nothing
-space_outside : (byte : ℕ) → eqb byte 32 ≡ true → character_of byte ≡ None
-space_outside byte s = ap character_of (eqb-true byte 32 s)
+space_outside : (byte : ℕ) → eqb byte 32 ≡ true → read_character byte ≡ None
+space_outside byte s = ap read_character (eqb-true byte 32 s)
 
 no_call : (said : Option Character) → said ≡ None → call_of said ≡ []
 no_call said e = ap call_of e
 
--- the calls of a line's pieces are those of the bytes before its slash
-closed_calls : (front : List ℕ) (parts : List Part) → flat_map calls_of_part (closed front parts) ≡ calls_of_bytes front ++ flat_map calls_of_part parts
-closed_calls [] parts = refl
-closed_calls (byte ∷ bytes) parts = refl
+-- bytes that are all taken lead from book to book by calls that are all accepted, if what follows does
+module _ (case : Case) (place byte : ℕ) (bytes : List ℕ) (b last : Book) (next : Book → Result Book LineFault) (calls : List BookCall)
+    (rest : (c : Book) → and_then (book_after_bytes true case (place + 1) bytes c) next ≡ Ok last → Leads c (all_done (calls_of_bytes bytes ++ calls)) last) where
+  abbrev After : Result Book ByteFault → Type 0
+  After taken = and_then (and_then (refused_as (fault_at place) taken) (book_after_bytes true case (place + 1) bytes)) next ≡ Ok last
 
-module _ (front bytes : List ℕ) (byte : ℕ)
-    (apart : flat_map calls_of_part (pieces_after [] bytes) ≡ calls_of_bytes (before_slash bytes))
-    (on : flat_map calls_of_part (pieces_after (front ++ byte ∷ []) bytes) ≡ calls_of_bytes (front ++ byte ∷ []) ++ calls_of_bytes (before_slash bytes)) where
-  one_byte_calls : (slash space : Bool) → eqb byte 32 ≡ space →
-      flat_map calls_of_part (cond slash (closed front (remark bytes ∷ [])) (cond space (closed front (pieces_after [] bytes)) (pieces_after (front ++ byte ∷ []) bytes)))
-      ≡ calls_of_bytes front ++ calls_of_bytes (cond slash [] (byte ∷ before_slash bytes))
-  one_byte_calls true space s = closed_calls front (remark bytes ∷ [])
-  one_byte_calls false true s =
-      closed_calls front (pieces_after [] bytes) ∙ ap (λ calls. calls_of_bytes front ++ calls) apart
-      ∙ ap (λ calls. calls_of_bytes front ++ (calls ++ calls_of_bytes (before_slash bytes))) (sym (no_call (character_of byte) (space_outside byte s)))
-  one_byte_calls false false s =
-      on ∙ ap (λ calls. calls ++ calls_of_bytes (before_slash bytes)) (sym (flat_map_more (λ b. call_of (character_of b)) [] front byte))
-      ∙ append_assoc (calls_of_bytes front) (call_of (character_of byte)) (calls_of_bytes (before_slash bytes))
+  call_leads : (call : BookCall) (called : Result Book SlipFault) → Follows b call (plain_answer of_slip called) (book_after b called)
+      → After (refused_as OnSlip called) → Leads b (all_done (call ∷ (calls_of_bytes bytes ++ calls))) last
+  call_leads call (Ok then) follows e = (then, follows, rest then e)
+  call_leads call (Err fault) follows e = never _ last e
 
-pieces_calls : (line front : List ℕ) → flat_map calls_of_part (pieces_after front line) ≡ calls_of_bytes front ++ calls_of_bytes (before_slash line)
-pieces_calls [] front = closed_calls front []
-pieces_calls (byte ∷ bytes) front =
-    one_byte_calls front bytes byte (pieces_calls bytes []) (pieces_calls bytes (front ++ byte ∷ [])) (eqb byte 47) (eqb byte 32) refl
+  write_leads : (v : ℕ) (other : Bool) (called : Result Book SlipFault) → Follows b (write v) (plain_answer of_slip called) (book_after b called)
+      → After (cond other (Err OtherCase) (refused_as OnSlip called)) → Leads b (all_done (write v ∷ (calls_of_bytes bytes ++ calls))) last
+  write_leads v true called follows e = never _ last e
+  write_leads v false called follows e = call_leads (write v) called follows e
 
--- the calls of bytes that are all taken are all accepted
-module _ (case : Case) (place byte : ℕ) (bytes : List ℕ) (b last : Book)
-    (rest : (c : Book) → taken_all true case (place + 1) bytes c ≡ Ok last → made_all (calls_of_bytes bytes) c ≡ Ok last) where
-  call_made : (called : Result Book SlipFault) → and_then (at_byte place called) (taken_all true case (place + 1) bytes) ≡ Ok last → and_then called (made_all (calls_of_bytes bytes)) ≡ Ok last
-  call_made (Ok next) e = rest next e
-  call_made (Err fault) e = never _ last e
+  byte_leads : (space : Bool) (says : Option Character) → eqb byte 32 ≡ space → read_character byte ≡ says
+      → After (cond space (Ok b) (book_after_character true case byte says b)) → Leads b (all_done ((call_of says ++ calls_of_bytes bytes) ++ calls)) last
+  byte_leads true says s is e =
+      subst (λ (made : List BookCall). Leads b (all_done ((made ++ calls_of_bytes bytes) ++ calls)) last) (sym (no_call says (sym is ∙ space_outside byte s))) (rest b e)
+  byte_leads false (Some (Symbol v)) s is e = write_leads v (is_other_case case byte) (book.write v b) writes e
+  byte_leads false (Some QuestionMark) s is e = call_leads blank (book.blank b) blanks e
+  byte_leads false None s is e = never _ last e
 
-  write_made : (other : Bool) (called : Result Book SlipFault) → and_then (cond other (Err (OtherCase place)) (at_byte place called)) (taken_all true case (place + 1) bytes) ≡ Ok last → and_then called (made_all (calls_of_bytes bytes)) ≡ Ok last
-  write_made true called e = never _ last e
-  write_made false called e = call_made called e
+bytes_lead : (case : Case) (place : ℕ) (bytes : List ℕ) (b last : Book) (next : Book → Result Book LineFault) (calls : List BookCall)
+    → ((c : Book) → next c ≡ Ok last → Leads c (all_done calls) last) → and_then (book_after_bytes true case place bytes b) next ≡ Ok last → Leads b (all_done (calls_of_bytes bytes ++ calls)) last
+bytes_lead case place [] b last next calls then e = then b e
+bytes_lead case place (byte ∷ bytes) b last next calls then e =
+    byte_leads case place byte bytes b last next calls (λ c. bytes_lead case (place + 1) bytes c last next calls then) (eqb byte 32) (read_character byte) refl refl e
 
-  byte_made : (space : Bool) (says : Option Character) → eqb byte 32 ≡ space → character_of byte ≡ says → and_then (cond space (Ok b) (entered true case place byte says b)) (taken_all true case (place + 1) bytes) ≡ Ok last → made_all (call_of says ++ calls_of_bytes bytes) b ≡ Ok last
-  byte_made true says s is e = ap (λ calls. made_all (calls ++ calls_of_bytes bytes) b) (no_call says (sym is ∙ space_outside byte s)) ∙ rest b e
-  byte_made false (Some (Symbol v)) s is e = write_made (is_other case byte) (book.write v b) e
-  byte_made false (Some QuestionMark) s is e = call_made (book.blank b) e
-  byte_made false None s is e = never _ last e
+parts_lead : (case : Case) (parts : List Part) (b last : Book) → book_after_parts true case parts b ≡ Ok last → Leads b (all_done (flat_map calls_of_part parts)) last
+parts_lead case [] b last e = cc
+parts_lead case (group place bytes ∷ parts) b last e =
+    bytes_lead case place bytes b last (book_after_parts true case parts) (flat_map calls_of_part parts) (λ c f. parts_lead case parts c last f) e
+parts_lead case (remark place bytes ∷ parts) b last e = parts_lead case parts b last e
 
-bytes_made : (case : Case) (place : ℕ) (bytes : List ℕ) (b last : Book) → taken_all true case place bytes b ≡ Ok last → made_all (calls_of_bytes bytes) b ≡ Ok last
-bytes_made case place [] b last e = cc
-bytes_made case place (byte ∷ bytes) b last e =
-    byte_made case place byte bytes b last (λ c. bytes_made case (place + 1) bytes c last) (eqb byte 32) (character_of byte) refl refl e
-
--- calls that are all accepted lead from book to book
-module _ (calls : List Call) (b last : Book) (rest : (c : Book) → made_all calls c ≡ Ok last → Leads c (all_done calls) last) where
-  call_leads : (call : Call) (called : Result Book SlipFault) → Follows b (in_book call) (said slip.told called) (after b called) → and_then called (made_all calls) ≡ Ok last → Leads b (all_done (call ∷ calls)) last
-  call_leads call (Ok next) follows e = (next, follows, rest next e)
-  call_leads call (Err fault) follows e = let z : ◌≡◌ {A = ℕ} 0 1 = cc in absurd (omega arith)
-
-  one_leads : (call : Call) → made_all (call ∷ calls) b ≡ Ok last → Leads b (all_done (call ∷ calls)) last
-  one_leads wipe e = (fresh, wipes, rest fresh e)
-  one_leads (write v) e = call_leads (write v) (book.write v b) writes e
-  one_leads blank e = call_leads blank (book.blank b) blanks e
-
-made_leads : (calls : List Call) (b last : Book) → made_all calls b ≡ Ok last → Leads b (all_done calls) last
-made_leads [] b last e = cc
-made_leads (call ∷ calls) b last e = one_leads calls b last (λ c. made_leads calls c last) call e
-
-module _ (line : List ℕ) (b last : Book) (r : Result (Unit {0}) LineFault) (a : r ≡ answer (take_line true line)) (e : last ≡ after fresh (take_line true line)) where
-  pub line_made : r ≡ Ok tt → made_all (calls_of line) b ≡ Ok last
-  line_made ok =
-      let groups = before_slash line in
-      ap (λ calls. made_all calls fresh) (pieces_calls line [])
-      ∙ bytes_made (line_case groups) 0 groups fresh last (accepted (take_line true line) last (sym ok ∙ a) e)
-
+module _ (line : List ℕ) (b last : Book) (r : Result (Unit {0}) LineFault) (a : r ≡ answer_of (take_line true line)) (e : last ≡ book_after fresh_book (take_line true line)) where
   pub line_leads : r ≡ Ok tt → Leads b (all_done (calls_of line)) last
-  line_leads ok = made_leads (calls_of line) b last (line_made ok)
+  line_leads ok =
+      (fresh_book, wipes, parts_lead (line_case (before_slash line)) (pieces line) fresh_book last (accepted (take_line true line) last (sym ok ∙ a) e))
 
-  pub only_wiped : (fault : LineFault) → r ≡ Err fault → Leads b ((booked.wipe, done) ∷ []) last
-  only_wiped fault err = (fresh, wipes, e ∙ ap (after fresh) (refused (take_line true line) fault (sym err ∙ a)))
+  pub only_wiped : (fault : LineFault) → r ≡ Err fault → Leads b ((wipe, done) ∷ []) last
+  only_wiped fault err = (fresh_book, wipes, e ∙ ap (book_after fresh_book) (refused (take_line true line) fault (sym err ∙ a)))

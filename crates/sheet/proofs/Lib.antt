@@ -1,5 +1,14 @@
+pub mod Cuts
+pub mod Fronts
+pub mod ColumnSteps
+pub mod ColumnsReadBack
+pub mod SideBySide
 pub mod BytesTaken
 pub mod CallsMade
+pub mod ByPieces
+pub mod FirstBad
 pub mod EightSealed
 pub mod Placing
 pub mod ReadBack
+pub mod Answered
+pub mod Saying

@@ -1,4 +1,4 @@
--- What each byte says, and how a symbol is written. Assumes nothing.
+-- What each byte says, and how a symbol is written.
 use Rattle.std.specs.Prelude.{ℕ, ◌+◌, cond, List, [], ◌∷◌, Some, None, codes, Option, ◌==◌, nat_lt, slice_index}
 use Rattle.std.specs.Char.{to_ascii_lowercase, to_ascii_uppercase, is_ascii_lowercase, is_ascii_uppercase}
 use Rattle.sheet.specs.declared.characters.Character.{Character}
@@ -11,8 +11,9 @@ abbrev pub alphabet : List ℕ
 alphabet = codes "qpzry9x8gf2tvdw0s3jn54khce6mua7l"
 
 -- the case of a letter
-abbrev pub case_of : ℕ → Option Case
-case_of byte = cond (is_ascii_lowercase byte) (Some Lower) (cond (is_ascii_uppercase byte) (Some Upper) None)
+abbrev pub letter_case : ℕ → Option Case
+letter_case byte =
+    cond (is_ascii_lowercase byte) (Some Lower) (cond (is_ascii_uppercase byte) (Some Upper) None)
 
 -- a small letter in a given case
 abbrev pub in_case : Case → ℕ → ℕ
@@ -25,9 +26,11 @@ symbol_from n [] byte = None
 symbol_from n (c ∷ cs) byte = cond (byte == c) (Some (Symbol n)) (symbol_from (n + 1) cs byte)
 
 -- what a byte says: a question mark is a case of its own, a letter says the same in either case
-abbrev pub character_of : ℕ → Option Character
-character_of byte = cond (byte == 63) (Some QuestionMark) (symbol_from 0 alphabet (to_ascii_lowercase byte))
+abbrev pub read_character : ℕ → Option Character
+read_character byte =
+    cond (byte == 63) (Some QuestionMark) (symbol_from 0 alphabet (to_ascii_lowercase byte))
 
 -- how a symbol is written, none from 32 on
-abbrev pub written : Case → ℕ → Option ℕ
-written case symbol = cond (nat_lt symbol 32) (Some (in_case case (slice_index alphabet symbol))) None
+abbrev pub write_character : Case → ℕ → Option ℕ
+write_character case symbol =
+    cond (nat_lt symbol 32) (Some (in_case case (slice_index alphabet symbol))) None

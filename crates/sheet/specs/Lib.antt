@@ -1,9 +1,14 @@
-pub mod BookCalls
+pub mod Cursors
+pub mod Pieces
+pub mod Columns
+pub mod OutputLines
 pub mod Calls
 pub mod Characters
-pub mod Faults
 pub mod Groups
 pub mod ReadingOff
 pub mod Sealed
-pub mod SheetFaults
+pub mod Refusals
 pub mod Taking
+pub mod Barred
+pub mod Shown
+pub mod Written

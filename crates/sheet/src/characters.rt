@@ -1,6 +1,6 @@
-// The 32 characters that stand for symbols. Each stands for its place in the set, in either case of a letter.
+// The 32 characters of the symbols. The symbol of each is its place in the set, in either case of a letter.
 ghost use Rattle.std.specs.Prelude.{◌≡◌, IfSome};
-ghost use Rattle.sheet.specs.Characters.{case_of, character_of, written};
+ghost use Rattle.sheet.specs.Characters.{letter_case, read_character, write_character};
 
 /// What one byte says.
 #[derive(Clone, Copy, PartialEq, Eq, Debug)]
@@ -22,7 +22,7 @@ const SET: [u8; 32] = *b"qpzry9x8gf2tvdw0s3jn54khce6mua7l";
 
 /// What a byte says, none where it is neither of the set nor a question mark.
 pub fn read_character(byte: u8) -> Option<Character>
-    ensures { result ≡ character_of byte }
+    ensures { result ≡ read_character byte }
 {
     match byte {
         b'q' | b'Q' => Some(Character::Symbol(0)),
@@ -64,7 +64,7 @@ pub fn read_character(byte: u8) -> Option<Character>
 
 /// The case of a letter; other bytes have none.
 pub fn letter_case(byte: u8) -> Option<Case>
-    ensures { result ≡ case_of byte }
+    ensures { result ≡ letter_case byte }
 {
     match byte {
         b'a'..=b'z' => Some(Case::Lower),
@@ -75,8 +75,9 @@ pub fn letter_case(byte: u8) -> Option<Case>
 
 /// The character of a symbol, none from 32 on. Reading it gives the symbol back.
 pub fn write_character(symbol: u8, case: Case) -> Option<u8>
-    ensures value { result ≡ written case symbol }
-    ensures read_back { IfSome result (λ byte. character_of byte ≡ Some (Character.Symbol symbol)) }
+    ensures value { result ≡ write_character case symbol }
+    ensures read_back { IfSome result
+        (λ byte. read_character byte ≡ Some (Character.Symbol symbol)) }
 {
     let small = *SET.get(usize::from(symbol))?;
     match case {

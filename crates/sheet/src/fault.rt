@@ -1,12 +1,9 @@
 // Why a typed line is refused.
-ghost use Rattle.std.specs.Prelude.{◌≡◌};
-ghost use Rattle.sheet.specs.Faults.{told};
 
-use book::slip_fault::SlipFault;
-use field::fault::{Layer, Refusal};
+use book::SlipFault;
 
 /// Why a line is refused. A place counts the line's bytes, from 0.
-#[derive(Clone, Copy, PartialEq, Eq, Debug)]
+#[derive(Clone, Copy, Debug)]
 pub enum LineFault {
     /// The slip refuses what stands at this place.
     OnSlip(SlipFault, usize),
@@ -19,39 +16,4 @@ pub enum LineFault {
     SymbolCount,
     /// The time is past the last tenth of a second of a day.
     LateTime,
-}
-
-/// What the line's refusal tells: the slip's keeps its number, and the line adds the byte.
-impl From<LineFault> for Refusal {
-    ghost from_gives = { λ fault r. r ≡ told fault };
-
-    fn from(fault: LineFault) -> Refusal {
-        match fault {
-            LineFault::OnSlip(fault, place) => Refusal {
-                number: Refusal::from(fault).number,
-                layer: Layer::Line,
-                place,
-            },
-            LineFault::OutsideSet(place) => Refusal {
-                number: 14,
-                layer: Layer::Line,
-                place,
-            },
-            LineFault::OtherCase(place) => Refusal {
-                number: 15,
-                layer: Layer::Line,
-                place,
-            },
-            LineFault::SymbolCount => Refusal {
-                number: 16,
-                layer: Layer::Line,
-                place: 0,
-            },
-            LineFault::LateTime => Refusal {
-                number: 17,
-                layer: Layer::Line,
-                place: 0,
-            },
-        }
-    }
 }

@@ -1,6 +1,6 @@
 // What a mended row says: who finished, and when.
 ghost use Rattle.std.specs.Prelude.{◌≡◌, ◌≤◌, length};
-ghost use Rattle.sheet.specs.ReadingOff.{digits_after, read_off, whole_seconds};
+ghost use Rattle.sheet.specs.ReadingOff.{base_32_after, read_off, whole_seconds};
 
 use crate::fault::LineFault;
 
@@ -32,7 +32,7 @@ pub fn whole_seconds(tenths: u32) -> u32
 // The number that digits say, the highest first.
 fn base_32(digits: &[u8]) -> u32
     requires { length digits.now ≤ 4 }
-    ensures { result ≡ digits_after 0 digits.now }
+    ensures { result ≡ base_32_after 0 digits.now }
 {
     digits
         .iter()

@@ -1,31 +1,18 @@
 // Why a line of a sheet is refused, with the line's number.
 ghost use Rattle.std.specs.Prelude.{◌≡◌};
-ghost use Rattle.sheet.specs.SheetFaults.{told, told_cause};
 ghost use Rattle.sheet.specs.declared.sheet_fault.Cause.TheVariants.{Line as of_line, Code as of_code};
 
 use crate::fault::LineFault;
-use book::code_fault::CodeFault;
-use field::fault::{Layer, Refusal};
+use book::CodeFault;
 
-/// What refuses a line of a sheet: reading it, or the code that it is held to.
-#[derive(Clone, Copy, PartialEq, Eq, Debug)]
+/// What refuses a line of a sheet: reading it, or the code that its row is mended by.
+#[derive(Clone, Copy, Debug)]
 pub enum Cause {
     Line(LineFault),
     Code(CodeFault),
 }
 
-/// What the cause's refusal tells.
-impl From<Cause> for Refusal {
-    ghost from_gives = { λ cause r. r ≡ told_cause cause };
-
-    fn from(cause: Cause) -> Refusal {
-        match cause {
-            Cause::Line(fault) => Refusal::from(fault),
-            Cause::Code(fault) => Refusal::from(fault),
-        }
-    }
-}
-
+/// The line's fault, whole.
 impl From<LineFault> for Cause {
     ghost from_gives = { λ fault r. r ≡ of_line fault };
 
@@ -34,6 +21,7 @@ impl From<LineFault> for Cause {
     }
 }
 
+/// The code's fault, whole.
 impl From<CodeFault> for Cause {
     ghost from_gives = { λ fault r. r ≡ of_code fault };
 
@@ -43,20 +31,8 @@ impl From<CodeFault> for Cause {
 }
 
 /// Why a sheet refuses one of its lines: the cause, whole, and the line's number beside it.
-#[derive(Clone, Copy, PartialEq, Eq, Debug)]
+#[derive(Clone, Copy, Debug)]
 pub struct SheetFault {
     pub line: usize,
     pub cause: Cause,
-}
-
-/// What the sheet's refusal tells: the cause keeps its number and its place.
-impl From<SheetFault> for Refusal {
-    ghost from_gives = { λ fault r. r ≡ told fault };
-
-    fn from(fault: SheetFault) -> Refusal {
-        Refusal {
-            layer: Layer::Sheet,
-            ..Refusal::from(fault.cause)
-        }
-    }
 }

@@ -1,4 +1,4 @@
--- What a slip's memory says of the book that it holds. Assumes nothing.
+-- What a slip's memory says of the book that it holds.
 --   long, row_held, marks_held   how many places it has, their symbols and their marks
 --   can_hold                     the book is one that a slip can hold
 --   steps                        these, and what each call makes of the memory
@@ -9,7 +9,7 @@ use Rattle.std.proofs.lemmas.List.{get_or_past, length-take-le}
 use Rattle.std.proofs.lemmas.List.Elements.{All-take}
 use Rattle.std.specs.Prelude.{All}
 use Rattle.book.specs.Book.{Book, marks, row}
-use Rattle.slip.specs.View.{book_of, places, Filled, Holdable}
+use Rattle.slip.specs.View.{book_of, places_of, IsFilled, IsHoldable}
 use Rattle.slip.specs.declared.slip.Slip.TheInside.{Inside}
 use Rattle.slip.proofs.Places.{length_places, marks_places, places_mark, places_push, row_places}
 
@@ -17,11 +17,11 @@ use Rattle.slip.proofs.Places.{length_places, marks_places, places_mark, places_
 below_everywhere : (vs : List ℕ) → All (λ v. v < 32) vs → (k : ℕ) → get_or vs k 0 < 32
 below_everywhere vs h k = elim (cases_lt k (length vs)) [ inl l ↦ h k 0 l | inr g ↦ omega (arith, get_or_past vs k 0 g) ]
 
-module _ (s : Inside) (b : Book) (filled : Filled s) (held : book_of s ≡ b) where
+module _ (s : Inside) (b : Book) (filled : IsFilled s) (held : book_of s ≡ b) where
   pub long : length b ≡ s.len
   long =
       let whole = length_places s.symbols s.doubted (filled.all_symbols ∙ sym filled.all_marks) in
-      sym (ap length held) ∙ length-take-le s.len (places s.symbols s.doubted) (omega (arith, filled.all_symbols, filled.room))
+      sym (ap length held) ∙ length-take-le s.len (places_of s.symbols s.doubted) (omega (arith, filled.all_symbols, filled.room))
 
   pub row_held : take s.len s.symbols ≡ row b
   row_held = sym (row_places s.symbols s.doubted s.len (omega (arith, filled.all_marks, filled.room))) ∙ ap row held
@@ -29,7 +29,7 @@ module _ (s : Inside) (b : Book) (filled : Filled s) (held : book_of s ≡ b) wh
   pub marks_held : take s.len s.doubted ≡ marks b
   marks_held = sym (marks_places s.symbols s.doubted s.len (omega (arith, filled.all_symbols, filled.room))) ∙ ap marks held
 
-  pub can_hold : Holdable b
+  pub can_hold : IsHoldable b
   can_hold = record {
     room = omega (arith, long, filled.room);
     symbols = subst (All (λ v. v < 32)) row_held (All-take (λ v. v < 32) s.len s.symbols filled.below);

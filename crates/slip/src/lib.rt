@@ -2,3 +2,5 @@
 #![tactic(auto)]
 
 pub mod slip;
+
+pub use slip::Slip;

@@ -1,4 +1,4 @@
-use Rattle.std.proofs.Common.{arith}
+use Rattle.std.proofs.Common.{length, ap, arith}
 use Rattle.correction.proofs.Indices.{for_order, next_index, no_index, first_position, none_left}
 use Rattle.correction.proofs.Onward.{onward_all, onward_more, never_none}
 use Rattle.correction.proofs.listing.list_errors.Goals as goal
@@ -30,6 +30,13 @@ loop-index-preserved g c =
     let found = next_index F locator c.requires c.loop-index.roots c.next.new.self c.next.ensures.answer c.next.ensures.rest c.unwrap.ensures c.in-Some.is in
     let onward = first_position len c.unwrap-order.result c.loop-index.invariant.1 found c.position_of-position.ensures in
     (c.loop-index.invariant.0, onward_more len onward (λ y v. c.list_place.ensures y v.1))
+
+pub loop-index-smaller : goal.loop-index-smaller
+loop-index-smaller g c =
+    let F = g.E.Field.field in
+    let locator = c.args.locator.now in
+    let found = next_index F locator c.requires c.loop-index.roots c.next.new.self c.next.ensures.answer c.next.ensures.rest c.unwrap.ensures c.in-Some.is in
+    omega (arith, ap length found)
 
 pub returns : goal.returns
 returns g c =

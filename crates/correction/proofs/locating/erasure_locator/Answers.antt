@@ -1,11 +1,11 @@
-use Rattle.std.proofs.Common.{◌+◌, arith, rules}
+use Rattle.std.proofs.Common.{◌+◌, ◌∙◌, arith, rules}
 use Rattle.std.proofs.lemmas.List.{length-take-le}
-use Rattle.decoding.proofs.Doubted.{doubted_none, doubted_past, doubted_more, doubted_room}
+use Rattle.correction.proofs.Doubted.{doubted_none, doubted_past, doubted_more, doubted_room}
 use Rattle.correction.proofs.locating.erasure_locator.Goals as goal
 use Rattle.correction.proofs.locating.erasure_locator.Goals.{then-marked, else-marked}
 
 pub loop-marked-init : goal.loop-marked-init
-loop-marked-init g c = doubted_none _ _ _ c.args.list.now (cc) c.requires c.one.ensures c.one-power.ensures
+loop-marked-init g c = doubted_none _ _ _ c.args.list.now (cc) c.requires (c.ONE.ensures ∙ g.met.F.Field.one_is) (c.ONE-power.ensures ∙ g.met.F.Field.one_is)
 
 pub overflow_add-len : goal.overflow_add-len
 overflow_add-len g c =

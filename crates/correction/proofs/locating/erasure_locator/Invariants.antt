@@ -1,6 +1,6 @@
 use Rattle.std.specs.Iterator.Adapters.{rev_source}
 use Rattle.std.specs.Slice.Iter.{iter_rest}
-use Rattle.decoding.proofs.Doubted.{Doubted}
+use Rattle.correction.proofs.Doubted.{Doubted}
 use Rattle.correction.proofs.locating.erasure_locator.Given as goal
 
 abbrev pub invariant-loop-marked : goal.invariant-loop-marked

@@ -1,5 +1,5 @@
 use Rattle.std.proofs.Common.{ℕ, arith}
-use Rattle.decoding.proofs.Locates.{errors_are, few_errors, few_errata, values_are, slopes_are}
+use Rattle.correction.proofs.Locates.{errors_are, few_errors, few_errata, values_are, slopes_are}
 use Rattle.correction.proofs.locating.locate.Goals as goal
 
 pub product-errata-requires-clause-room : goal.product-errata-requires-clause-room

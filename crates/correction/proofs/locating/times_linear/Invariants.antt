@@ -1,4 +1,4 @@
-use Rattle.decoding.proofs.Linear.{Turned}
+use Rattle.correction.proofs.Linear.{Turned}
 use Rattle.correction.proofs.locating.times_linear.Given as goal
 
 abbrev pub invariant-loop-entry : goal.invariant-loop-entry

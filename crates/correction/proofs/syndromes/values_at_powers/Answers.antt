@@ -1,7 +1,7 @@
 use Rattle.std.proofs.Common.{◌≡◌, suc, ◌+◌, map, ap, ◌∙◌, arith}
 use Rattle.algebra.specs.Field.{pow}
 use Rattle.algebra.specs.Poly.{eval}
-use Rattle.fieldvec.proofs.Filled.{filled_more}
+use Rattle.lists.proofs.Filled.{filled_more}
 use Rattle.correction.proofs.Values.{answer_is}
 use Rattle.correction.proofs.syndromes.values_at_powers.Goals as goal
 

@@ -1,7 +1,7 @@
 use Rattle.std.proofs.Common.{◌≡◌, ◌+◌, map}
 use Rattle.algebra.specs.Field.{pow}
 use Rattle.algebra.specs.Poly.{eval}
-use Rattle.fieldvec.proofs.Filled.{Filled}
+use Rattle.lists.proofs.Filled.{Filled}
 use Rattle.correction.proofs.syndromes.values_at_powers.Given as goal
 
 abbrev pub invariant-loop-value : goal.invariant-loop-value

@@ -1,10 +1,10 @@
 use Rattle.std.proofs.Common.{length, is_ok, ap, ◌∙◌, rules}
-use Rattle.book.specs.Book.{answer}
+use Rattle.book.specs.Book.{answer_of}
 use Rattle.sheet.proofs.EightSealed.{eight_held, eight_sealed, twelve_sealed}
 use Rattle.sheet.proofs.sealed.sealed_row.Goals as goal
 
 pub unwrap-requires : goal.unwrap-requires
-unwrap-requires c = ap is_ok (c.seal.ensures.answer ∙ ap answer (eight_held c.args.slip.now c.requires))
+unwrap-requires c = ap is_ok (c.seal.ensures.answer ∙ ap answer_of (eight_held c.args.slip.now c.requires))
 
 pub unwrap-requires-2 : goal.unwrap-requires-2
 unwrap-requires-2 c =

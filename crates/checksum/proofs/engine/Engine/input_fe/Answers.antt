@@ -12,8 +12,8 @@ loop-power-preserved g c =
     let i = c.loop-power.power in
     let r = c.index-residue-power.result in
     let few = c.laws.ensures.lawful.few_checks in
-    let is-k = c.checksum_length.ensures in
-    let many = length-take-le c.checksum_length.result c.self.inside.entries (omega (arith, c.self.invariant)) in
+    let is-k = c.CHECKSUM_LENGTH.ensures ∙ g.met.C.Checksum.checksum_length_is in
+    let many = length-take-le c.CHECKSUM_LENGTH.result c.self.inside.entries (omega (arith, c.self.invariant)) in
     let hr : i < length rs = omega arith in
     let hg : i < length lower = omega arith in
     let new : c.replace-below.new.dest ≡ F.add c.loop-power.below (F.mul c.neg-times.result c.generator.result) = cc in
@@ -27,18 +27,18 @@ returns g c =
     let F = g.C.SymbolField.Field.field in
     let code = g.C.Checksum.code in
     let entries = c.self.inside.entries in
-    let before = take c.checksum_length.result entries in
+    let before = take c.CHECKSUM_LENGTH.result entries in
     let after = c.loop-power.residue in
     let times = c.neg-times.result in
     let x = c.index-residue-residue.result in
     let lawful = c.laws.ensures.lawful in
     let some = lawful.some_checks in
     let few = lawful.few_checks in
-    let is-k = c.checksum_length.ensures in
-    let many = length-take-le c.checksum_length.result entries (omega (arith, c.self.invariant)) in
+    let is-k = c.CHECKSUM_LENGTH.ensures ∙ g.met.C.Checksum.checksum_length_is in
+    let many = length-take-le c.CHECKSUM_LENGTH.result entries (omega (arith, c.self.invariant)) in
     let done : checks code ≤ c.loop-power.power = omega arith in
     let held : before ≡ c.args.self.now = ap (λ n. take n entries) is-k ∙ c.self.view_is in
-    take_at after (drop c.checksum_length.result entries) (checks code) (omega arith)
+    take_at after (drop c.CHECKSUM_LENGTH.result entries) (checks code) (omega arith)
     ∙ sym (fed_all F times c.loop-power.below c.loop-power.power after code.lower done)
     ∙ c.loop-power.invariant
     ∙ ap (λ t. feed F t c.args.symbol before code.lower) c.neg-times.ensures

@@ -1,2 +1,0 @@
-pub mod Bech32Laws
-pub mod FinishLaws

@@ -1,0 +1,10 @@
+pub mod Cursors
+pub mod Equality
+pub mod Exponents
+pub mod Monoids
+pub mod Multiples
+pub mod Refusals
+pub mod Logarithms
+pub mod Answered
+pub mod Inverse1024
+pub mod Inverse32768

@@ -1,0 +1,5 @@
+use lib.Bits.{xor_lt}
+use Rattle.fields.proofs.gf32.arithmetic.Fe32Field.add.Goals as goal
+
+pub invariant_of-result : goal.invariant_of-result
+invariant_of-result c = record { ok = xor_lt 5 c.args.self.value c.args.other.value c.args.self.ok c.args.other.ok }

@@ -1,0 +1,8 @@
+use Rattle.std.proofs.Common.{refl}
+use Rattle.fields.specs.Gf32.{gf32, fe_path}
+use Rattle.fields.specs.Gf32768.{fe32768_path}
+use Rattle.fields.proofs.gf32768.arithmetic.Fe32768ExtensionField.lift.Goals as goal
+
+pub returns : goal.returns
+unfolding gf32
+returns c = fe32768_path _ _ refl (fe_path _ _ refl) (fe_path _ _ refl)

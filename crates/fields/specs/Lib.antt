@@ -1,0 +1,9 @@
+pub mod Elements
+pub mod Powers
+pub mod Cursors
+pub mod Monoid
+pub mod Binary
+pub mod Gf32
+pub mod Gf1024
+pub mod Gf32768
+pub mod Laws

@@ -1,5 +1,0 @@
-pub mod Binary
-pub mod Every
-pub mod BinaryLaws
-pub mod Gf32
-pub mod Cyclic

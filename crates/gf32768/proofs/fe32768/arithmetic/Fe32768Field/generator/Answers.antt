@@ -1,8 +1,0 @@
-use Rattle.std.proofs.Common.{refl}
-use Rattle.gf32.specs.Gf32.{fe_path}
-use Rattle.gf32768.specs.Gf32768.{gf32768_units, fe32768_path}
-use Rattle.gf32768.proofs.fe32768.arithmetic.Fe32768Field.generator.Goals as goal
-
-pub returns : goal.returns
-unfolding gf32768_units
-returns c = fe32768_path _ _ (fe_path _ _ refl) (fe_path _ _ refl) (fe_path _ _ refl)

@@ -1,2 +1,0 @@
-pub mod Gf32768
-pub mod Laws32768

@@ -1,4 +1,0 @@
-// GF(32768), above GF(32).
-#![tactic(auto)]
-
-pub mod fe32768;

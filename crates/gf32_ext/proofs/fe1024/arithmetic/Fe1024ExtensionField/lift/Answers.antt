@@ -1,8 +1,0 @@
-use Rattle.std.proofs.Common.{refl, ap₂}
-use Rattle.gf32.specs.Gf32.{gf32, fe_path}
-use Rattle.gf32_ext.specs.Gf1024.{fe1024}
-use Rattle.gf32_ext.proofs.fe1024.arithmetic.Fe1024ExtensionField.lift.Goals as goal
-
-pub returns : goal.returns
-unfolding gf32
-returns c = ap₂ fe1024 refl (fe_path _ _ refl)

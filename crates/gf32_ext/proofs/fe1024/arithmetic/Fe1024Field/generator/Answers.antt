@@ -1,8 +1,0 @@
-use Rattle.std.proofs.Common.{refl, ap₂}
-use Rattle.gf32.specs.Gf32.{fe_path}
-use Rattle.gf32_ext.specs.Gf1024.{gf1024_units, fe1024}
-use Rattle.gf32_ext.proofs.fe1024.arithmetic.Fe1024Field.generator.Goals as goal
-
-pub returns : goal.returns
-unfolding gf1024_units
-returns c = ap₂ fe1024 (fe_path _ _ refl) (fe_path _ _ refl)

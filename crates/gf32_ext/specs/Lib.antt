@@ -1,3 +1,0 @@
-pub mod Gf1024
-pub mod Irreducible
-pub mod Laws1024

@@ -1,5 +1,0 @@
-use Rattle.script.specs.declared.script.Ask.TheVariants.{Settle}
-use Rattle.hut_lines.proofs.lines.settle.Goals as goal
-
-pub returns-clause-decided : goal.returns-clause-decided
-returns-clause-decided c b = c.run.ensures.decided b (Settle (record { code = record {} }) (record { records = 16; working = 216 }))

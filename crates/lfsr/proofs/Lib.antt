@@ -1,4 +1,0 @@
-pub mod Grown
-pub mod Judged
-pub mod Shifted
-pub mod Steps

@@ -1,5 +1,0 @@
-use Rattle.lfsr.proofs.Steps.{Kept}
-use Rattle.lfsr.proofs.lfsr.run.Given as goal
-
-abbrev pub invariant-loop-n : goal.invariant-loop-n
-invariant-loop-n g l = Kept g.F.Field.field l.s l.initial.conn l.conn l.old l.n l.len l.old_len l.x l.old_inverse

@@ -1,4 +1,0 @@
-// Linear feedback shift registers over any field.
-#![tactic(auto)]
-
-pub mod lfsr;

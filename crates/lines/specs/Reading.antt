@@ -1,0 +1,13 @@
+-- How a line is read.
+--   IsOver      the reader has nothing left, or no more bytes may be read
+--   ReadsLine   the bytes that were read are a line and its newline, or else a line after which it is over
+use Rattle.std.specs.Prelude.{◌≡◌, ◌≢◌, ◌⊎◌, ℕ, Bool, true, false, List, [], ◌∷◌, ◌++◌, All, Option}
+use Rattle.std.specs.Io.KnownBytes.{IsAtEnd}
+
+abbrev pub IsOver : Option (List ℕ) → ℕ → Type 0
+IsOver remaining left = IsAtEnd remaining ⊎ (left ≡ 0)
+
+abbrev pub ReadsLine : Option (List ℕ) → ℕ → Bool → List ℕ → List ℕ → Type 0
+ReadsLine remaining left true line bytes = All (λ byte. byte ≢ 10) line × (bytes ≡ line ++ 10 ∷ [])
+ReadsLine remaining left false line bytes =
+    All (λ byte. byte ≢ 10) line × (bytes ≡ line) × IsOver remaining left

@@ -1,0 +1,11 @@
+pub mod Filled
+pub mod Places
+pub mod Degrees
+pub mod Fronts
+pub mod Searches
+pub mod Values
+pub mod Tabulated
+pub mod Terms
+pub mod Grown
+pub mod Shifted
+pub mod Steps

@@ -1,0 +1,2 @@
+-- What private functions promise one another: no public contract rests on it.
+pub mod Combined

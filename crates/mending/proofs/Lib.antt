@@ -1,4 +1,0 @@
-pub mod Checking
-pub mod Finding
-pub mod Fitted
-pub mod Lessening

@@ -1,3 +1,0 @@
-pub mod Answers
-pub mod Checked
-pub mod Found

@@ -1,3 +1,0 @@
-pub mod ColumnSteps
-pub mod ReadBack
-pub mod SideBySide

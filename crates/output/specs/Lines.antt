@@ -1,9 +1,0 @@
--- The output line: five numbers in columns, and a newline. Assumes nothing.
-use Rattle.std.specs.Prelude.{ℕ, List, [], ◌∷◌, ◌++◌}
-use Rattle.output.specs.Columns.{column}
-use Rattle.output.specs.declared.line.Told.{Told}
-
-abbrev pub output_line : Told → List ℕ
-output_line told =
-    column 6 told.line ++ (column 4 told.refusal ++ (column 4 told.changes
-    ++ (column 8 told.sail ++ (column 8 told.seconds ++ 10 ∷ []))))

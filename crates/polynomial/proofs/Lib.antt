@@ -1,4 +1,0 @@
-pub mod Degrees
-pub mod Fronts
-pub mod Searches
-pub mod Values

@@ -1,7 +1,0 @@
-use Rattle.polynomial.proofs.Searches.{all_left}
-use Rattle.polynomial.proofs.polynomial.find_nonzero_distinct_roots.Goals as goal
-
-pub returns : goal.returns
-returns g c =
-    let order = c.in_ok-order.order in
-    (order, c.in_ok-order.ensures, λ p. all_left g.F.Field.field p c.args.base order c.one.result c.one.ensures)

@@ -1,9 +1,0 @@
-use Rattle.std.proofs.Common.{refl, rules, ◌∙◌}
-use Rattle.polynomial.proofs.Degrees.{degree_found}
-use Rattle.polynomial.proofs.polynomial.top_power.Goals as goal
-
-pub returns : goal.returns
-returns g c =
-    let F = g.F.Field.field in
-    c.unwrap_or.ensures
-    ∙ degree_found F c.args.list.now (λ a. g.F.PartialEq.eq a F.𝟘) (λ a. g.met.F.Field.equality a F.𝟘 _ refl) c.rposition.result (search rules)

@@ -1,9 +1,0 @@
-use Rattle.std.proofs.Common.{◌≡◌}
-use Rattle.polynomial.specs.Roots.{coming}
-use Rattle.polynomial.proofs.roots.Roots.next.Given as goal
-
-abbrev pub invariant-loop-index : goal.invariant-loop-index
-invariant-loop-index g l = coming g.F.Field.field l.list l.self ≡ coming g.F.Field.field l.list l.initial.self
-
-abbrev pub decreases-loop-index : goal.decreases-loop-index
-decreases-loop-index g l = l.self.left

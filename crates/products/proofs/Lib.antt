@@ -1,2 +1,0 @@
-pub mod Tabulated
-pub mod Terms

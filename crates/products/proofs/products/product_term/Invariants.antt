@@ -1,7 +1,0 @@
-use Rattle.std.proofs.Common.{◌≡◌, ◌+◌, ◌≤◌, take}
-use Rattle.algebra.specs.Poly.{coeff}
-use Rattle.algebra.specs.Series.{times}
-use Rattle.products.proofs.products.product_term.Given as goal
-
-abbrev pub invariant-loop-i : goal.invariant-loop-i
-invariant-loop-i g l = let F = g.F.Field.field in (l.i ≤ l.n + 1) × (l.sum ≡ times F (take l.i l.p) (coeff F l.q) l.n)

@@ -1,8 +1,0 @@
-use Rattle.std.proofs.Common.{refl}
-use Rattle.script.proofs.Lent.{settle_in_part}
-use Rattle.script.proofs.run.settle_turn.Goals as goal
-
-pub returns : goal.returns
-returns g c =
-    settle_in_part (g.K.CodeSet.rows c.args.code) (c.laws.ensures c.args.code).bound_small _ _ c.args.lent.records c.args.lent.working c.min-room.result
-    _ c.settle-found.new.records _ c.settle-found.result _ c.min-room.ensures refl c.reply.ensures c.settle-found.ensures

@@ -1,8 +1,0 @@
-use Rattle.std.proofs.Common.{refl}
-use Rattle.script.proofs.Lent.{solve_in_part}
-use Rattle.script.proofs.run.solve_turn.Goals as goal
-
-pub returns : goal.returns
-returns g c =
-    solve_in_part (g.K.CodeSet.rows c.args.code) (c.laws.ensures c.args.code).bound_small _ _ c.args.lent.records c.args.lent.working c.min-room.result
-    _ c.solve-found.new.records _ c.solve-found.result _ c.min-room.ensures refl c.reply.ensures c.solve-found.ensures

@@ -1,3 +1,0 @@
-pub mod Cursors
-pub mod Lines
-pub mod Pieces
