@@ -6,7 +6,7 @@ It prints nothing where all is there, and ends with status 1 where something is 
 
 It looks for
     each file and each name in backticks; not for names in docs/DIFFERENCES.md, many of which are the Rust's, nor for those of the
-    examples that docs/EXTENDING.md adds and takes out again
+    examples in docs/EXTENDING.md, which the repository does not keep
     each line that docs/DIFFERENCES.md quotes, in the stored input of the program that its section names
     each public function of the library's crates, in docs/API.md
 """

@@ -12,7 +12,9 @@ that are near one sound row are near no other, and each sound row has as many ne
 
 It is the chance that a row of letters drawn at random, f of them not understood, is shown as some row or refused with 17. The last
 column has the chance that it is shown with no or one change, a question mark counting as a change unless it is filled in by a q:
-all letters are right and at most one question mark changes, or one letter is wrong and none does."""
+all letters are right and at most one question mark changes, or one letter is wrong and none does. It is given for at most two
+question marks: with three or four a row that was heard right is shown with so few changes only by chance too, and the number of
+changes tells nothing."""
 import random
 import subprocess
 import sys
@@ -56,10 +58,10 @@ def share(unknown):
     return near, 32 ** (CHECKS - unknown)
 
 
-def share_with_one_change(unknown):
-    """How many of all rows with so many question marks are near a sound row with at most one change."""
-    some_wrong = 31 * (LENGTH - unknown) if unknown + 2 <= BOUND else 0
-    return (1 + 31 * unknown + some_wrong), 32**CHECKS
+def share_with_one_change():
+    """How many of all rows with at most two question marks are near a sound row with at most one change.
+    Any of the places can be the one that changes, a question mark or not."""
+    return 1 + 31 * LENGTH, 32**CHECKS
 
 
 def garbled(row, unknown, wrong, draw):
@@ -106,8 +108,8 @@ def main():
     print("question marks   wrong letters mended   rows near a sound one   share      with at most one change")
     for unknown in range(BOUND + 1):
         near, of = share(unknown)
-        few, of_all = share_with_one_change(unknown)
-        shares = f"{100 * near / of:5.1f} %   {100 * few / of_all:20.3f} %"
+        few, of_all = share_with_one_change()
+        shares = f"{100 * near / of:5.1f} %" + (f"   {100 * few / of_all:20.3f} %" if unknown <= 2 else "")
         print(f"{unknown:14}   {(BOUND - unknown) // 2:20}   {near:9} of {of:8}   {shares}")
     if sys.argv[1:2] == ["run"]:
         print()
