@@ -4,7 +4,7 @@
 --   mark, doubts   a book with one more place doubted, and how many are
 --   fresh_book     the book of a new slip, and of one that was wiped
 --   write, blank, doubt   the book after each call, or why the call is refused
---   answer, after  what a call answers, and the book that it leaves: a refusal changes nothing
+--   answer_of, book_after   what a call answers, and the book that it leaves: a refusal changes nothing
 --   symbol_at, doubted_at   what is read from a book
 use Rattle.std.specs.Prelude.{ℕ, Bool, true, false, cond, [], ◌∷◌, ◌++◌, length, Ok, Err, Option, Result, nat_le, nat_lt, slice_index_or}
 use Rattle.std.specs.List.{slice_get}

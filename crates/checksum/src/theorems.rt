@@ -16,7 +16,8 @@ pub fn syndromes_stand<C: Checksum>()
     C::CorrectionField::lift_laws();
 }
 
-/// Two different sound rows of one length within the limit differ in at least bound + 1 places.
+/// The designed distance: sound rows that are equally long, not above the limit and not equal have a Hamming distance above the
+/// bound.
 pub fn distance_stands<C: Checksum>()
     ensures { HasDistance C.SymbolField.field
         C.CorrectionField.field C.CorrectionField.lifted C.code }
@@ -34,7 +35,7 @@ pub fn one_near_stands<C: Checksum>()
     C::CorrectionField::lift_laws();
 }
 
-/// Where one more place is doubted, no other row than before is near.
+/// Within the limit, where a row is near and one more place is doubted, no other row is near.
 pub fn one_more_doubt_stands<C: Checksum>()
     ensures { KeepsRowUnderDoubt C.SymbolField.field
         C.CorrectionField.field C.CorrectionField.lifted C.code }

@@ -1,9 +1,9 @@
 -- Coefficient lists, lowest power first, and what the functions on them answer.
---   degree F p       the highest power whose coefficient is not ZERO; 0 for a list of ZEROs
---   leading_term F p   the coefficient of that power
---   formal_derivative F p   as many entries as the degree; entry i is (i + 1) times coefficient i + 1
---   product F p q d  the product from power 0 to the degrees' sum plus 1, but at most to d - 1
---   convolved F p s  entry j is the sum of p(f - i) × s(j + i) over i from 0 to f, the degree of p
+--   degree F p             the highest power whose coefficient is not ZERO; 0 for a list of ZEROs
+--   leading_term F p       the coefficient of that power
+--   formal_derivative F p  as many entries as the degree; entry i is (i + 1) times coefficient i + 1
+--   mul_mod_x_d F p q d    the product from power 0 to the degrees' sum plus 1, but at most to d - 1
+--   convolution F p s      entry j is the sum of p(f - i) × s(j + i) over i from 0 to f, the degree of p
 use Rattle.std.specs.Prelude.{ℕ, zero, suc, ◌+◌, ◌-◌, min, List, [], ◌∷◌, length}
 use Rattle.algebra.specs.Field.{FieldOn, multiple}
 use Rattle.algebra.specs.Poly.{tab, coeff}

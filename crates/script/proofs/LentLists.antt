@@ -1,6 +1,6 @@
 -- A search that is lent 216 elements to work in answers as one that is lent more.
 --   found_on_workspace    a search at the front of a workspace
---   left_is, left_clear   what it leaves there
+--   left_list, left_clear   what it leaves there
 use Rattle.std.proofs.Common.{◌≡◌, ℕ, zero, suc, ◌+◌, ◌*◌, ◌≤◌, true, min, ltb, List, ◌∷◌, ◌++◌, length, take, drop, replicate, Ok, Err, Option, Result, sym, refl, ap, ◌∙◌, ⊎_elim, arith}
 use Rattle.std.proofs.lemmas.List.{length-take, take-append-drop}
 use Rattle.std.proofs.lemmas.Bool.{lt-ltb, le-ltb, cases_lt}

@@ -10,8 +10,9 @@ use crate::script::{Answer, Call, Lent, Reply};
 use slip::Slip;
 
 /// Makes one call on a slip. The book before and the call decide the answer and the book after; and of every code of the set
-/// the promise holds: a near row is given, where none is near every answer is a refusal, and one more doubt never leads to
-/// another row. A search leaves ZEROs where it worked, and a refusal before it leaves the workspace as it was.
+/// the promise holds: a near row is given where no other reason refuses the call, where none is near every answer is a refusal,
+/// and right after a solve that lists, a solve or settle with one more place doubted gives the same row or is refused. A search
+/// leaves ZEROs where it worked, and a refusal before it leaves the workspace as it was.
 pub fn call<K: CodeSet>(slip: &mut Slip, call: Call<K>, workspace: &mut K::Workspace) -> Reply
     ensures follows { Follows slip.old (book_call K.codes call) (book_answer result) slip.new }
     ensures decided { IsDecided (book_call K.codes call) }

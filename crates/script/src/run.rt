@@ -16,8 +16,9 @@ use slip::Slip;
 ///
 /// For each slip, the calls on it and their replies lead from the book that it held to the book that it holds; from
 /// fresh slips they are its story. Each answer and each book is decided by the book before and the call. And of every
-/// code of the set the promise stands: a near row is given, where none is near every answer is a refusal, and one more
-/// doubt never leads to another row.
+/// code of the set the promise holds: a near row is given where no other reason refuses the call, where none is near every
+/// answer is a refusal, and right after a solve that lists, a solve or settle with one more place doubted gives the same row or
+/// is refused.
 pub fn run<K: CodeSet>(
     slips: &mut [Slip],
     steps: &[Step<K>],
