@@ -1,5 +1,5 @@
 // A cursor over the roots of a list, among the powers of a base.
-ghost use Rattle.std.specs.Prelude.{◌≡◌, length};
+ghost use Rattle.std.specs.Prelude.{◌≡◌, ⊤, length};
 ghost use Rattle.lists.specs.Faults.{unless_empty};
 ghost use Rattle.lists.specs.Roots.{next_root, cursor_after, Seeks};
 
@@ -7,11 +7,12 @@ use crate::fault::ListFault;
 use crate::polynomial::{not_empty, value_at};
 use fields::Field;
 use fields::powers::multiplicative_order;
+use std::alloc::AllocError;
 use std::marker::Model;
 
 /// A cursor over the indices at whose power of a base a list is ZERO. It is passed a list at each step, so that it is no
 /// `Iterator`.
-#[derive(Drop)]
+#[derive_where(Copy)]
 pub struct Roots<F: Field> {
     base: F,
     order: usize,
@@ -20,9 +21,10 @@ pub struct Roots<F: Field> {
     power: F,
 }
 
-// Clauses see which indices are yet to be tried.
+// Clauses see which indices are yet to be tried. They tell the power too, so that a cursor can be copied.
 impl<F: Field> Model for Roots<F> {
     ghost use Rattle.std.specs.Prelude.{◌≡◌, ◌≤◌};
+    ghost use Rattle.std.proofs.Common.{sym};
     ghost use Rattle.algebra.specs.Field.{pow};
     ghost use Rattle.lists.specs.Roots.{Cursor};
 
@@ -31,6 +33,26 @@ impl<F: Field> Model for Roots<F> {
     ghost view = { λ r. record { base = r.base; next = r.next; order = r.order } };
 
     ghost invariant = { λ r. (r.next ≤ r.order) × (r.power ≡ pow F.field r.base r.next) };
+
+    ghost inverse = { λ c. record { base = c.base; order = c.order; next = c.next; power = pow F.field c.base c.next } };
+
+    ghost inverse_ok = { λ r kept i. record { base = r.base; order = r.order; next = r.next; power = sym kept.1 i } };
+}
+
+// By hand, since no law says that a field's `clone` answers the same element.
+impl<F: Field> Clone for Roots<F> {
+    ghost is_clone = { λ c r. r ≡ c };
+
+    ghost is_infallible = { λ _. ⊤ };
+
+    fn clone(&self) -> Result<Self, AllocError> {
+        Ok(Roots {
+            base: self.base,
+            order: self.order,
+            next: self.next,
+            power: self.power,
+        })
+    }
 }
 
 /// A cursor over the indices below the base's multiplicative order.
