@@ -19,15 +19,26 @@ fn answer_by<C: Checksum<SymbolField = Fe32>>(
     match letter {
         "E" => write_elements(heap, Engine::<C>::of_row(row).residue()),
         "S" => write_elements(heap, seal::<C>(row).symbols()),
-        "L" => Ok(C::CODE_LENGTH.to_string(heap)?),
         _ => Err(anyhow!("an unknown command")),
     }
 }
 
+fn limit(heap: Global, code: &str) -> anyhow::Result<String> {
+    let most = match code {
+        "finish" => Finish::CODE_LENGTH,
+        "sheet" => Bech32::CODE_LENGTH,
+        _ => return Err(anyhow!("an unknown code")),
+    };
+    Ok(most.to_string(heap)?)
+}
+
 fn answer(heap: Global, command: &str) -> anyhow::Result<String> {
     let (letter, rest) = command.split_once(' ').context("a command without a code")?;
-    // A command without a row has the empty one.
-    let (code, row) = rest.split_once(' ').unwrap_or((rest, "-"));
+    // Only this command has no row.
+    if letter == "L" {
+        return limit(heap, rest);
+    }
+    let (code, row) = rest.split_once(' ').context("a command without a row")?;
     let row = read_elements(heap, row)?;
     match code {
         "finish" => answer_by::<Finish>(heap, letter, row.as_slice()),
