@@ -1,6 +1,6 @@
 // Runs strings of BIP 173 through the sheet code: each line of standard input that does not begin with # is a string, and for
-// each a line is written that says whether its row is sound, or too long for the code, or whether the string cannot be read.
-// Only the check is looked at, and not what the string means.
+// each a line is written, before the next is read, that says whether its row is sound, or too long for the code, or whether the
+// string cannot be read. Only the check is looked at, and not what the string means.
 #![tactic(auto)]
 
 use anyhow::Context;
@@ -10,10 +10,7 @@ use fields::{Fe32, Field};
 use sheet::Character;
 use sheet::characters::read_character;
 use std::alloc::Global;
-use std::io::Read;
-
-// What is read at most.
-const INPUT_BYTES: u64 = 65_536;
+use std::io::{BufRead, BufReader};
 
 fn symbol(number: u8) -> anyhow::Result<Fe32> {
     element::<Bech32>(number).context("a symbol above 31")
@@ -62,20 +59,33 @@ fn verdict(row: &[Fe32]) -> &'static str {
     }
 }
 
+// A line without what ends it: a newline, or a return and a newline.
+fn without_ending(line: &[u8]) -> &[u8] {
+    match line.strip_suffix(b"\n") {
+        Some(text) => text.strip_suffix(b"\r").unwrap_or(text),
+        None => line,
+    }
+}
+
 fn run(rt: &HostRuntime) -> anyhow::Result<()> {
     let heap = rt.alloc();
-    let mut input = Vec::new(heap);
-    rt.stdin().take(INPUT_BYTES).read_to_end(&mut input)?;
+    let mut input = BufReader::new(heap, rt.stdin())?;
     // By bytes, since a string may have some that make no text.
-    for line in input.as_slice().split(|byte| *byte == b'\n') {
-        if line.is_empty() || line.starts_with(b"#") {
+    let mut line = Vec::new(heap);
+    for _ in 0..u64::MAX {
+        line.clear();
+        if input.read_until(b'\n', &mut line)? == 0 {
+            break;
+        }
+        let string = without_ending(line.as_slice());
+        if string.starts_with(b"#") {
             continue;
         }
-        let verdict = match read_string(heap, line)? {
+        let verdict = match read_string(heap, string)? {
             Some(row) => verdict(row.as_slice()),
             None => "unreadable",
         };
-        let text = String::from_utf8_lossy(heap, line)?;
+        let text = String::from_utf8_lossy(heap, string)?;
         println!(rt; "{text}: {verdict}")?;
     }
     Ok(())
