@@ -19,6 +19,13 @@ impl<R: Read, A: Allocator> LineAhead for BufReader<R, A> {
     }
 }
 
+// Bytes in memory are all at hand.
+impl LineAhead for &[u8] {
+    fn has_line(&self) -> bool {
+        self.contains(&b'\n')
+    }
+}
+
 /// Reads a line: the bytes before the next newline, or before the end, or as many as `left` allows, which counts the bytes
 /// that may still be read. The answer is whether a newline ended the line; else nothing more is to be read. A reader that
 /// gave its end is not read again, since a terminal would wait for another line.

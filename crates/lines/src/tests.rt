@@ -49,12 +49,6 @@ impl LineAhead for Failing<'_> {
     }
 }
 
-impl LineAhead for &[u8] {
-    fn has_line(&self) -> bool {
-        self.contains(&b'\n')
-    }
-}
-
 // Takes a byte at a time, as long as there is room, and then fails.
 #[derive(Drop)]
 struct Full {
