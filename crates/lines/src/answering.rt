@@ -1,11 +1,12 @@
 // Lines, each answered before the next is read.
-ghost use Rattle.std.specs.Prelude.{◌≡◌, ℕ, ◌≤◌, List, length, take, IfSome, OnOk};
-ghost use Rattle.std.specs.Io.KnownBytes.{Appends};
+ghost use Rattle.std.specs.Prelude.{◌≡◌, ◌≢◌, ℕ, ◌+◌, ◌≤◌, All, List, length, take, IfSome, OnOk, MatchResult};
+ghost use Rattle.std.specs.Io.KnownBytes.{Appends, Consumes};
 ghost use Rattle.lines.specs.Lines.{lines_of};
+ghost use Rattle.lines.specs.Reading.{ReadsLine};
 ghost use Rattle.lines.specs.Streams.{Answering, AnswersAll, Streams, WritesAnswer};
 
 use crate::fault::StreamError;
-use crate::reading::{LineAhead, read_line};
+use crate::reading::{LineAhead, next_byte};
 use std::alloc::Global;
 use std::io;
 use std::io::{Read, Write};
@@ -44,7 +45,7 @@ pub fn answer_lines<C: Clerk, R: Read + LineAhead, W: Write>(
     let mut line = Vec::new(alloc);
     let mut left = INPUT_BYTES;
     for answered in 0..INPUT_BYTES {
-        let more = match read_line(reader, &mut left, &mut line) {
+        let more = match next_line(reader, &mut left, &mut line) {
             Ok(more) => more,
             Err(error) => return Err(StreamError::Input(error)),
         };
@@ -60,6 +61,33 @@ pub fn answer_lines<C: Clerk, R: Read + LineAhead, W: Write>(
         }
     }
     Ok(left == 0)
+}
+
+// Reads a line as `read_line` does, and moves to it in one piece what is at hand.
+fn next_line<R: Read + LineAhead>(
+    reader: &mut R,
+    left: &mut usize,
+    line: &mut Vec<u8>,
+) -> io::Result<bool>
+    ensures { (bytes : List ℕ) × Consumes (R.remaining reader.old) (R.remaining reader.new) bytes
+        × (left.new + length bytes ≡ left.old)
+        × MatchResult result
+        (λ more. ReadsLine (R.remaining reader.new) left.new more line.new.items bytes)
+        (λ _. All (λ byte. byte ≢ 10) bytes) }
+{
+    line.clear();
+    while !reader.take_ahead(left, line)? {
+        let next = if *left > 0 { next_byte(reader)? } else { None };
+        let Some(byte) = next else {
+            return Ok(false);
+        };
+        *left -= 1;
+        if byte == b'\n' {
+            return Ok(true);
+        }
+        line.push(byte)?;
+    }
+    Ok(true)
 }
 
 // Writes the answer of a line, and flushes if the next line has to be waited for, or there is none.

@@ -1,22 +1,53 @@
 // A line at a time from a reader.
-ghost use Rattle.std.specs.Prelude.{◌≡◌, ◌≢◌, ℕ, ◌+◌, ◌<◌, ◌≤◌, [], ◌∷◌, ◌++◌, length, All, List, OnErr, IfOk, IfSome, nat_lt, MatchOption, MatchResult};
+ghost use Rattle.std.specs.Prelude.{◌≡◌, ◌≢◌, ◌==◌, ℕ, ◌+◌, ◌<◌, ◌≤◌, [], ◌∷◌, ◌++◌, length, All, List, OnErr, IfOk, IfSome, nat_lt, MatchOption, MatchResult, position};
 ghost use Rattle.std.specs.Io.KnownBytes.{Consumes, IsAtEnd, Keeps};
-ghost use Rattle.lines.specs.Reading.{ReadsLine};
+ghost use Rattle.lines.specs.Reading.{ReadsLine, TakesAhead};
 
 use std::alloc::Allocator;
 use std::io;
-use std::io::{BufReader, ErrorKind, Read};
+use std::io::{BufRead, BufReader, ErrorKind, Read};
 
 /// A reader that may hold a line already.
-pub trait LineAhead {
+pub trait LineAhead: Read {
     /// Whether a line and its newline can be read without waiting.
     fn has_line(&self) -> bool;
+
+    /// Moves the bytes at hand to a line, up to a newline or as many as `left` allows, which counts the bytes that may still
+    /// be read. The answer is whether the newline came, which is read too. Nothing is waited for.
+    fn take_ahead(&mut self, left: &mut usize, line: &mut Vec<u8>) -> io::Result<bool>
+        ensures { (bytes : List ℕ) × Consumes (Self.remaining self.old) (Self.remaining self.new) bytes
+            × (left.new + length bytes ≡ left.old)
+            × MatchResult result
+            (λ ended. TakesAhead line.old.items line.new.items ended bytes)
+            (λ _. All (λ byte. byte ≢ 10) bytes) }
+    {
+        Ok(false)
+    }
 }
 
 impl<R: Read, A: Allocator> LineAhead for BufReader<R, A> {
     fn has_line(&self) -> bool {
         self.buffer().contains(&b'\n')
     }
+
+    fn take_ahead(&mut self, left: &mut usize, line: &mut Vec<u8>) -> io::Result<bool> {
+        let held = self.buffer();
+        let ahead = &held[..held.len().min(*left)];
+        let newline = newline_in(ahead);
+        let more = newline.unwrap_or(ahead.len());
+        line.extend_from_slice(&ahead[..more])?;
+        let taken = if newline.is_some() { more + 1 } else { more };
+        self.consume(taken);
+        *left -= taken;
+        Ok(newline.is_some())
+    }
+}
+
+// Where the first newline is.
+fn newline_in(bytes: &[u8]) -> Option<usize>
+    ensures { result ≡ position (λ byte. byte == 10) bytes.now }
+{
+    bytes.iter().position(|byte| *byte == b'\n')
 }
 
 // Bytes in memory are all at hand.
@@ -59,7 +90,7 @@ pub fn has_more<R: Read>(reader: &mut R) -> io::Result<bool>
 }
 
 // The next byte, or `None` at the end. A read that a signal interrupts is repeated.
-fn next_byte<R: Read>(reader: &mut R) -> io::Result<Option<u8>>
+pub(crate) fn next_byte<R: Read>(reader: &mut R) -> io::Result<Option<u8>>
     ensures byte { IfOk result (λ next. MatchOption next
         (Keeps (R.remaining reader.old) (R.remaining reader.new) × IsAtEnd (R.remaining reader.new))
         (λ byte. Consumes (R.remaining reader.old) (R.remaining reader.new) (byte ∷ []))) }

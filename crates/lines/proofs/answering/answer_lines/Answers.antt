@@ -19,7 +19,7 @@ returns-in-Err-clause-so_far g c =
 pub returns-then-is_empty-clause-so_far : goal.returns-then-is_empty-clause-so_far
 returns-then-is_empty-clause-so_far g c =
     let read = c.in-Ok.ensures in
-    let line = c.read_line.new.line in
+    let line = c.next_line.new.line in
     let last = rw c.if-not-more.true at read.3 in
     let zero = eqb-true _ 0 (sym c.is_empty.ensures ∙ c.if-is_empty.true) in
     let none : length line.items ≡ 0 = omega (arith, line.ok.0) in
@@ -31,7 +31,7 @@ returns-then-is_empty-clause-all g c = all_answered g.C.Clerk.answers 65536 _ _ 
 pub returns-in-Err-answer_line-clause-so_far : goal.returns-in-Err-answer_line-clause-so_far
 returns-in-Err-answer_line-clause-so_far g c =
     let read = c.in-Ok.ensures in
-    let line = c.read_line.new.line in
+    let line = c.next_line.new.line in
     let wrote = c.in-Err-answer_line.ensures in
     let is = subst (λ (l : List ℕ). g.C.Clerk.answers (c.loop-answered.answered + 1) l wrote.0) c.deref.ensures.value wrote.2 in
     let some : c.in-Ok.more ≡ false → 0 < length line.items = elim c.else-not-more.branch [
@@ -46,7 +46,7 @@ returns-in-Err-answer_line-clause-so_far g c =
 pub returns-then-not-more-2-clause-so_far : goal.returns-then-not-more-2-clause-so_far
 returns-then-not-more-2-clause-so_far g c =
     let read = c.in-Ok.ensures in
-    let line = c.read_line.new.line in
+    let line = c.next_line.new.line in
     let wrote = c.in_default.ensures in
     let last = rw c.if-not-more-2.true at read.3 in
     let is = subst (λ (l : List ℕ). g.C.Clerk.answers (c.loop-answered.answered + 1) l wrote.0) c.deref.ensures.value wrote.2 in
@@ -64,7 +64,7 @@ returns-then-not-more-2-clause-all g c = all_answered g.C.Clerk.answers 65536 _ 
 pub loop-answered-preserved : goal.loop-answered-preserved
 loop-answered-preserved g c =
     let read = c.in-Ok.ensures in
-    let line = c.read_line.new.line in
+    let line = c.next_line.new.line in
     let wrote = c.in_default.ensures in
     let whole = rw c.if-not-more-2.false at read.3 in
     let is = subst (λ (l : List ℕ). g.C.Clerk.answers (c.loop-answered.answered + 1) l wrote.0) c.deref.ensures.value wrote.2 in
