@@ -1,7 +1,7 @@
 -- What is moved to a line of what is at hand.
 use Rattle.std.proofs.Common.{◌≡◌, ℕ, ◌+◌, ◌<◌, ◌≤◌, Bool, true, false, cond, ◌==◌, nat_lt, List, [], ◌∷◌, ◌++◌, length, take, drop, get_or, None, Some, Option, sym, refl, ap, ◌∙◌, subst, append_assoc, arith, add-one, length-take}
 use Rattle.std.proofs.Math.Seq.{take-suc}
-use Rattle.std.proofs.lemmas.Bool.{eqb-false, eqb-true, ltb-false}
+use Rattle.std.proofs.lemmas.Bool.{eqb-false, eqb-true, le-ltb, lt-ltb, ltb-false}
 use Rattle.std.proofs.lemmas.List.{drop-append-le, get_or-take, take-append-drop, take-take}
 use Rattle.std.proofs.lemmas.List.Sums.{fails_before_first}
 use Rattle.std.specs.List.{position, position_or_len}
@@ -31,9 +31,13 @@ module _ (bytes : List ℕ) where
       let past = ltb-false (position_or_len is_newline bytes) (length bytes) e in
       fails_before_first is_newline bytes k d (omega arith)
 
+  pub found : (newline : Option ℕ) → newline ≡ position (λ byte. byte == 10) bytes → nat_lt (unwrap_or newline (length bytes)) (length bytes) ≡ is_some newline
+  found (Some at) e = let first = position-Some is_newline bytes at 10 (sym e) in lt-ltb at (length bytes) first.0
+  found None e = le-ltb (length bytes) (length bytes) (omega arith)
+
   pub no_more : (taken : ℕ) (newline : Option ℕ) → newline ≡ position (λ byte. byte == 10) bytes
       → taken ≡ cond (is_some newline) (unwrap_or newline (length bytes) + 1) (unwrap_or newline (length bytes)) → taken ≤ length bytes
-  no_more taken (Some at) e t = let found = position-Some is_newline bytes at 10 (sym e) in omega arith
+  no_more taken (Some at) e t = let first = position-Some is_newline bytes at 10 (sym e) in omega arith
   no_more taken None e t = omega arith
 
 -- of so many bytes at hand, those through the newline are moved, or all of them
@@ -43,11 +47,11 @@ module _ (held old new : List ℕ) (most taken : ℕ) where
       → new ≡ old ++ take (unwrap_or newline (length (take most held))) (take most held) → TakesAhead old new (is_some newline) (take taken held)
   moved (Some at) e t put =
       let ahead = take most held in
-      let found = position-Some is_newline ahead at 10 (sym e) in
+      let first = position-Some is_newline ahead at 10 (sym e) in
       let l = length-take most held in
-      let ten = eqb-true (get_or ahead at 10) 10 found.1 in
+      let ten = eqb-true (get_or ahead at 10) 10 first.1 in
       let same = ap (λ (n : ℕ). take n held) t ∙ sym (take-take (at + 1) most held (omega arith)) in
-      let cut : take (at + 1) ahead ≡ take at ahead ++ 10 ∷ [] = rw add-one (take-suc ahead at 10 found.0 ∙ ap (λ (byte : ℕ). take at ahead ++ byte ∷ []) ten) in
+      let cut : take (at + 1) ahead ≡ take at ahead ++ 10 ∷ [] = rw add-one (take-suc ahead at 10 first.0 ∙ ap (λ (byte : ℕ). take at ahead ++ byte ∷ []) ten) in
       (take at ahead, none_among ahead at (λ k d below short. (position-Some is_newline ahead at d (sym e)).2 k below), same ∙ cut, put)
   moved None e t put =
       let ahead = take most held in

@@ -3,7 +3,7 @@ ghost use Rattle.std.specs.Prelude.{◌≡◌, ◌≢◌, ◌==◌, ℕ, ◌+◌
 ghost use Rattle.std.specs.Io.KnownBytes.{Consumes, IsAtEnd, Keeps};
 ghost use Rattle.lines.specs.Reading.{ReadsLine, TakesAhead};
 
-use std::alloc::Allocator;
+use std::alloc::{AllocError, Allocator};
 use std::io;
 use std::io::{BufRead, BufReader, ErrorKind, Read};
 
@@ -14,13 +14,14 @@ pub trait LineAhead: Read {
 
     /// Moves the bytes at hand to a line, up to a newline or as many as `left` allows, which counts the bytes that may still
     /// be read. The answer is whether the newline came, which is read too. Nothing is waited for.
-    fn take_ahead(&mut self, left: &mut usize, line: &mut Vec<u8>) -> io::Result<bool>
+    fn take_ahead(&mut self, left: &mut usize, line: &mut Vec<u8>) -> Result<bool, AllocError>
         ensures { (bytes : List ℕ) × Consumes (Self.remaining self.old) (Self.remaining self.new) bytes
             × (left.new + length bytes ≡ left.old)
             × MatchResult result
             (λ ended. TakesAhead line.old.items line.new.items ended bytes)
             (λ _. All (λ byte. byte ≢ 10) bytes) }
     {
+        // Nothing is known to be at hand.
         Ok(false)
     }
 }
@@ -30,16 +31,16 @@ impl<R: Read, A: Allocator> LineAhead for BufReader<R, A> {
         self.buffer().contains(&b'\n')
     }
 
-    fn take_ahead(&mut self, left: &mut usize, line: &mut Vec<u8>) -> io::Result<bool> {
+    fn take_ahead(&mut self, left: &mut usize, line: &mut Vec<u8>) -> Result<bool, AllocError> {
         let held = self.buffer();
         let ahead = &held[..held.len().min(*left)];
-        let newline = newline_in(ahead);
-        let more = newline.unwrap_or(ahead.len());
+        let more = newline_in(ahead).unwrap_or(ahead.len());
+        let ended = more < ahead.len();
         line.extend_from_slice(&ahead[..more])?;
-        let taken = if newline.is_some() { more + 1 } else { more };
+        let taken = if ended { more + 1 } else { more };
         self.consume(taken);
         *left -= taken;
-        Ok(newline.is_some())
+        Ok(ended)
     }
 }
 

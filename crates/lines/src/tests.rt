@@ -3,7 +3,7 @@ ghost use Rattle.std.specs.Prelude.{⊤};
 
 use crate::answering::{Clerk, INPUT_BYTES, answer_lines};
 use crate::fault::StreamError;
-use crate::reading::{LineAhead, has_more};
+use crate::reading::{LineAhead, has_more, read_line};
 use crate::writing::write_text;
 use std::io;
 use std::io::{BufReader, BufWriter, ErrorKind, Read, Write};
@@ -188,4 +188,65 @@ fn a_line_that_the_limit_cuts(rt: HostRuntime) {
     assert!(rt; output.len() == 2 * 65_535);
     assert!(rt; output.as_slice().ends_with(b"-\na\n"));
     assert!(rt; input == b"c\n".as_slice());
+}
+
+#[test]
+fn a_line_at_a_time(rt: HostRuntime) {
+    let mut input: &[u8] = b"ab\n\ncde";
+    let mut left = 6;
+    let mut line = Vec::new(rt.alloc());
+    for (want, bytes) in [
+        (true, &b"ab"[..]),
+        (true, b""),
+        (false, b"cd"),
+        (false, b""),
+    ] {
+        let more = read_line(&mut input, &mut left, &mut line);
+        assert!(rt; matches!(more, Ok(found) if found == want));
+        assert!(rt; line.as_slice() == bytes);
+    }
+    assert!(rt; left == 0);
+    assert!(rt; input == b"e".as_slice());
+}
+
+#[test]
+fn what_is_at_hand_is_moved(rt: HostRuntime) {
+    let Ok(mut input) = BufReader::new(rt.alloc(), b"ab\n\ncde".as_slice()) else {
+        return;
+    };
+    let mut left = 5;
+    let mut line = Vec::new(rt.alloc());
+    // Nothing is read before it is asked for.
+    assert!(rt; matches!(input.take_ahead(&mut left, &mut line), Ok(false)));
+    assert!(rt; left == 5 && line.is_empty());
+    assert!(rt; matches!(has_more(&mut input), Ok(true)));
+    for (want, bytes, rest) in [
+        (true, &b"b"[..], 3),
+        (true, b"b", 2),
+        (false, b"bcd", 0),
+        (false, b"bcd", 0),
+    ] {
+        let ended = input.take_ahead(&mut left, &mut line);
+        assert!(rt; matches!(ended, Ok(found) if found == want));
+        assert!(rt; line.as_slice() == bytes);
+        assert!(rt; left == rest);
+    }
+    assert!(rt; matches!(has_more(&mut input), Ok(true)));
+    assert!(rt; matches!(has_more(&mut input), Ok(false)));
+}
+
+#[test]
+fn a_buffered_line_that_the_limit_cuts(rt: HostRuntime) {
+    let Ok(bytes) = vec![in rt.alloc(); b'x'; 65_537] else {
+        return;
+    };
+    let Ok(mut input) = BufReader::new(rt.alloc(), bytes.as_slice()) else {
+        return;
+    };
+    let mut output = Vec::new(rt.alloc());
+    let full = answer_lines::<First, _, _>(rt.alloc(), &mut input, &mut output);
+    assert!(rt; matches!(full, Ok(true)));
+    assert!(rt; output.as_slice() == b"x\n".as_slice());
+    assert!(rt; matches!(has_more(&mut input), Ok(true)));
+    assert!(rt; matches!(has_more(&mut input), Ok(false)));
 }
