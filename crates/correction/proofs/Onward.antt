@@ -11,7 +11,7 @@ use Rattle.correction.specs.Patterns.{Pushes}
 
 pub pushed_added : (new : Record) (before after : List Record) (r : Option (Unit {0})) → Pushes new before r after → Adds new before r after
 pushed_added new before after None p room = let full = p.0 in absurd (omega arith)
-pushed_added new before after (Some u) p room = (refl, p)
+pushed_added new before after (Some u) p room = (refl, p.1)
 
 abbrev pub Onward : (ℕ → ℕ → Type 0) → ℕ → List ℕ → List Record → List ℕ → List Record → Type 0
 Onward Change n all before ps hs =

@@ -4,7 +4,7 @@
 --   IsPattern    what is true of the memory of every pattern
 --   pattern_memory   the memory that holds some records
 --   Pushes       records with one more, or as they were where there are sixteen
-use Rattle.std.specs.Prelude.{◌≡◌, ◌-◌, ◌≤◌, List, [], ◌∷◌, ◌++◌, length, take, drop, replicate, Some, None, Option}
+use Rattle.std.specs.Prelude.{◌≡◌, ◌-◌, ◌<◌, ◌≤◌, List, [], ◌∷◌, ◌++◌, length, take, drop, replicate, Some, None, Option}
 use Rattle.correction.specs.declared.pattern.Pattern.TheInside.{Inside}
 use Rattle.book.specs.declared.record.Record.{Record}
 
@@ -22,7 +22,7 @@ pub record IsPattern (p : Inside) : Type 0 where
 abbrev pub pattern_memory : List Record → Inside
 pattern_memory records = record { records = records ++ replicate (16 - length records) blank_record; len = length records }
 
--- none where there is no room, and then nothing has changed
+-- there was room for it; or none where there is no room, and then nothing has changed
 abbrev pub Pushes : Record → List Record → Option (Unit {0}) → List Record → Type 0
 Pushes new before None after = (length before ≡ 16) × (after ≡ before)
-Pushes new before (Some _) after = after ≡ before ++ new ∷ []
+Pushes new before (Some _) after = (length before < 16) × (after ≡ before ++ new ∷ [])

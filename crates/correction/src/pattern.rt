@@ -1,5 +1,5 @@
 // Records in fixed memory.
-ghost use Rattle.std.specs.Prelude.{◌≡◌, [], cond, length, Some, None, nat_le};
+ghost use Rattle.std.specs.Prelude.{◌≡◌, ◌≤◌, [], cond, length, Some, None, nat_le};
 ghost use Rattle.correction.specs.Patterns.{Pushes};
 
 use book::{BLANK, Record};
@@ -66,7 +66,8 @@ impl Pattern {
 
     /// The records, in the order in which they came.
     pub fn records(&self) -> &[Record]
-        ensures { result.now ≡ self.now }
+        ensures records { result.now ≡ self.now }
+        ensures few { length result.now ≤ 16 }
     {
         &self.records[..self.len]
     }

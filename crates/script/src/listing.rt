@@ -1,5 +1,5 @@
 // What a solve or a settle lists.
-ghost use Rattle.std.specs.Prelude.{◌≡◌};
+ghost use Rattle.std.specs.Prelude.{◌≡◌, ◌≤◌, length};
 
 use book::Record;
 use correction::Pattern;
@@ -21,7 +21,8 @@ impl Listing {
 
     /// The records, in the order in which they are listed.
     pub fn records(&self) -> &[Record]
-        ensures { result.now ≡ self.now.records }
+        ensures records { result.now ≡ self.now.records }
+        ensures few { length result.now ≤ 16 }
     {
         self.records.records()
     }

@@ -18,6 +18,6 @@ returns-clause-found g c =
     let cs = c.in_ok-pattern.pattern in
     let zero = ap (λ (rows : NumericCode). rows.zero) g.met.C.Checksum.rows_are ∙ zero_number N s c.ZERO.result c.number.result (c.ZERO.ensures ∙ g.met.C.SymbolField.Field.zero_is) c.number.ensures.number in
     let changed : c.count_changes-nonzero.result ≡ nonzero_count C cs =
-    rw (c.count_changes-nonzero.ensures, c.records.ensures) (ap (λ (nothing : ℕ). count_by (λ r. not (eqb r.change nothing)) cs) (sym zero)) in
+    rw (c.count_changes-nonzero.ensures, c.records.ensures.records) (ap (λ (nothing : ℕ). count_by (λ r. not (eqb r.change nothing)) cs) (sym zero)) in
     is_found C c.args.records (length c.args.work.now) c.args.slip.now cs c.count_changes-nonzero.result c.mended-mended.result c.records-2.result.now
-    c.in_ok-pattern.ensures.found changed c.records-2.ensures c.mended-mended.ensures.mended
+    c.in_ok-pattern.ensures.found changed c.records-2.ensures.records c.mended-mended.ensures.mended
