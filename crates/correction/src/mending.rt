@@ -70,8 +70,9 @@ pub fn settle<C: Checksum>(
     ensures working { work.new ≡ workspace_after C.CorrectionField.field result work.old }
 {
     let found = find::<C>(slip, records.len(), work)?;
-    list(found.pattern.records(), records);
-    let answer = (found.pattern.records().len(), found.nonzero);
+    let listed = found.pattern.records();
+    list(listed, records);
+    let answer = (listed.len(), found.nonzero);
     *slip = found.mended;
     Ok(answer)
 }

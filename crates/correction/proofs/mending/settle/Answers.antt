@@ -1,4 +1,4 @@
-use Rattle.std.proofs.Common.{◌∙◌, ap, length, sym}
+use Rattle.std.proofs.Common.{length, refl}
 use Rattle.std.proofs.lemmas.Result.{err_from_is_err_and}
 use Rattle.book.specs.Calls.{settles}
 use Rattle.correction.proofs.Finding.{patterned, room_for, settled_by}
@@ -12,16 +12,16 @@ returns-in_err-found-clause-follows g c =
 pub list-requires : goal.list-requires
 list-requires g c =
     room_for g.C.Checksum.rows (length c.args.records.now) (length c.args.work.now) c.args.slip.now
-    c.in_ok-found.found.pattern c.records.result.now c.in_ok-found.found.nonzero c.in_ok-found.found.mended c.in_ok-found.ensures.found c.records.ensures.records
+    c.in_ok-found.found.pattern c.records-listed.result.now c.in_ok-found.found.nonzero c.in_ok-found.found.mended c.in_ok-found.ensures.found c.records-listed.ensures.records
 
 pub returns-clause-follows : goal.returns-clause-follows
 returns-clause-follows g c =
     settled_by g.C.Checksum.rows (length c.args.records.now) (length c.args.work.now) c.args.slip.now
-    c.in_ok-found.found.pattern c.records.result.now c.list.new.records c.args.records.now (length c.records-2.result.now) c.in_ok-found.found.nonzero c.in_ok-found.found.mended
-    c.in_ok-found.ensures.found c.records.ensures.records (ap length (c.records-2.ensures.records ∙ sym c.records.ensures.records)) c.list.ensures
+    c.in_ok-found.found.pattern c.records-listed.result.now c.list.new.records c.args.records.now (length c.records-listed.result.now) c.in_ok-found.found.nonzero c.in_ok-found.found.mended
+    c.in_ok-found.ensures.found c.records-listed.ensures.records refl c.list.ensures
 
 pub returns-clause-pattern : goal.returns-clause-pattern
 returns-clause-pattern g c =
     patterned g.C.Checksum.rows (length c.args.records.now) (length c.args.work.now) c.args.slip.now
-    c.in_ok-found.found.pattern c.records.result.now c.list.new.records c.args.records.now (length c.records-2.result.now) c.in_ok-found.found.nonzero c.in_ok-found.found.mended
-    c.in_ok-found.ensures.found c.records.ensures.records (ap length (c.records-2.ensures.records ∙ sym c.records.ensures.records)) c.list.ensures
+    c.in_ok-found.found.pattern c.records-listed.result.now c.list.new.records c.args.records.now (length c.records-listed.result.now) c.in_ok-found.found.nonzero c.in_ok-found.found.mended
+    c.in_ok-found.ensures.found c.records-listed.ensures.records refl c.list.ensures

@@ -1,4 +1,4 @@
-use Rattle.std.proofs.Common.{◌∙◌, ap, length, sym}
+use Rattle.std.proofs.Common.{◌∙◌, ap, arith, length, sym}
 use Rattle.std.proofs.lemmas.Result.{err_from_is_err_and}
 use Rattle.book.specs.Calls.{solves}
 use Rattle.correction.proofs.Finding.{patterned, room_for, solved}
@@ -11,8 +11,9 @@ returns-in_err-found-clause-follows g c =
 
 pub list-requires : goal.list-requires
 list-requires g c =
-    room_for g.C.Checksum.rows (length c.args.records.now) (length c.args.work.now) c.args.slip.now
-    c.in_ok-found.found.pattern c.records.result.now c.in_ok-found.found.nonzero c.in_ok-found.found.mended c.in_ok-found.ensures.found c.records.ensures.records
+    let room = room_for g.C.Checksum.rows (length c.args.records.now) (length c.args.work.now) c.args.slip.now
+    c.in_ok-found.found.pattern c.records.result.now c.in_ok-found.found.nonzero c.in_ok-found.found.mended c.in_ok-found.ensures.found c.records.ensures.records in
+    omega arith
 
 pub returns-clause-follows : goal.returns-clause-follows
 returns-clause-follows g c =
