@@ -1,4 +1,4 @@
-use Rattle.std.proofs.Common.{◌≡◌, length, replicate, ap, ◌∙◌, append-nil, arith, rules}
+use Rattle.std.proofs.Common.{◌≡◌, length, replicate, append-nil, arith, rules}
 use Rattle.std.proofs.lemmas.List.{drop_all}
 use Rattle.lists.proofs.Filled.{filled_with}
 use Rattle.lists.proofs.fieldvec.clear.Goals as goal
