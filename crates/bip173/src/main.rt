@@ -67,26 +67,34 @@ fn without_ending(line: &[u8]) -> &[u8] {
     }
 }
 
+// Writes the verdict on a string, and nothing for a comment.
+fn write_verdict(rt: &HostRuntime, string: &[u8]) -> anyhow::Result<()> {
+    if string.starts_with(b"#") {
+        return Ok(());
+    }
+    let verdict = match read_string(rt.alloc(), string)? {
+        Some(row) => verdict(row.as_slice()),
+        None => "unreadable",
+    };
+    let text = String::from_utf8_lossy(rt.alloc(), string)?;
+    println!(rt; "{text}: {verdict}")?;
+    Ok(())
+}
+
 fn run(rt: &HostRuntime) -> anyhow::Result<()> {
-    let heap = rt.alloc();
-    let mut input = BufReader::new(heap, rt.stdin())?;
+    let mut input = BufReader::new(rt.alloc(), rt.stdin())?;
     // By bytes, since a string may have some that make no text.
-    let mut line = Vec::new(heap);
+    let mut line = Vec::new(rt.alloc());
     for _ in 0..u64::MAX {
         line.clear();
         if input.read_until(b'\n', &mut line)? == 0 {
             break;
         }
-        let string = without_ending(line.as_slice());
-        if string.starts_with(b"#") {
-            continue;
+        write_verdict(rt, without_ending(line.as_slice()))?;
+        // The input has ended. A terminal that is read again would wait for another line.
+        if !line.ends_with(b"\n") {
+            break;
         }
-        let verdict = match read_string(heap, string)? {
-            Some(row) => verdict(row.as_slice()),
-            None => "unreadable",
-        };
-        let text = String::from_utf8_lossy(heap, string)?;
-        println!(rt; "{text}: {verdict}")?;
     }
     Ok(())
 }

@@ -1,7 +1,5 @@
 // The engine that works out a row's residue symbol by symbol, and with it the checking and the sealing of rows.
-ghost use Rattle.std.specs.Prelude.{List, ◌≡◌, ◌∷◌, ◌++◌, ℕ, ◌-◌, ⊤, map, reverse, length, take, drop, replicate, Decides};
-ghost use Rattle.std.proofs.Common.{sym, ap, ◌∙◌, arith, take-append-drop};
-ghost use Rattle.std.proofs.lemmas.List.{length-take};
+ghost use Rattle.std.specs.Prelude.{List, ◌≡◌, ◌∷◌, ◌++◌, ◌-◌, map, reverse, length, take, replicate, Decides};
 ghost use Rattle.algebra.specs.Code.{checks, modulo, poly_one, residue, residue_from, completion, seal, IsSoundRow, IsOnlySeal};
 ghost use Rattle.algebra.specs.Poly.{poly_sub};
 ghost use Rattle.algebra.specs.Remainder.{IsRemainder};
@@ -9,8 +7,7 @@ ghost use Rattle.algebra.specs.Remainder.{IsRemainder};
 use crate::checksum::Checksum;
 use fields::Field;
 use fields::arithmetic::difference;
-use std::alloc::AllocError;
-use std::marker::{Model, PhantomData};
+use std::marker::Model;
 use std::mem;
 
 /// A running residue: the coefficients of a polynomial of degree below k, lowest power first, in the first k entries. No
@@ -135,80 +132,43 @@ impl<C: Checksum> Engine<C> {
         self.subtract_from_target();
         let mut symbols = self.entries;
         symbols[..C::CHECKSUM_LENGTH].reverse();
-        CheckSymbols::of_symbols(&symbols[..C::CHECKSUM_LENGTH])
+        CheckSymbols { symbols }
     }
 }
 
-/// The k check symbols of a row, in the order of writing, in the first k entries, with ZEROs past them. Unlike an engine it
-/// takes no symbols, and has the highest power first. Its parameter S is always C's field: what holds an associated type
-/// can't be `Copy`.
-#[derive_where(Copy)]
-pub struct CheckSymbols<C: Checksum<SymbolField = S>, S: Field = <C as Checksum>::SymbolField> {
-    symbols: [S; 16],
-    code: PhantomData<C>,
+/// The k check symbols of a row, in the order of writing, in the first k entries. Unlike an engine it takes no symbols, and has
+/// the highest power first.
+#[derive(Drop)]
+pub struct CheckSymbols<C: Checksum> {
+    symbols: [C::SymbolField; 16],
 }
 
-// Clauses see the k symbols. What lies past them is ZERO, so that they alone tell the memory, and can be copied.
-impl<C: Checksum<SymbolField = S>, S: Field> Model for CheckSymbols<C, S> {
-    ghost Value = { List S };
+// Clauses see the k symbols.
+impl<C: Checksum> Model for CheckSymbols<C> {
+    ghost Value = { List C.SymbolField };
 
     ghost view = { λ s. take (checks C.code) s.symbols };
 
-    ghost invariant = { λ s. (length s.symbols ≡ 16)
-        × (drop (checks C.code) s.symbols ≡ replicate (16 - checks C.code) S.field.𝟘) };
-
-    ghost inverse = { λ symbols. record {
-      symbols = symbols ++ replicate (16 - length symbols) S.field.𝟘;
-      code = record {};
-    } };
-
-    ghost inverse_ok = { λ s kept i. record {
-      symbols = (
-          ap (λ (n : ℕ). take (checks C.code) s.symbols ++ replicate n S.field.𝟘)
-          {x = 16 - length (take (checks C.code) s.symbols)} {y = 16 - checks C.code}
-          (omega (arith, kept.0, length-take (checks C.code) s.symbols))
-          ∙ ap (λ (rest : List S). take (checks C.code) s.symbols ++ rest) (sym kept.1)
-          ∙ take-append-drop (checks C.code) s.symbols
-          ) i;
-      code = record {};
-    } };
+    ghost invariant = { λ s. length s.symbols ≡ 16 };
 }
 
-// By hand, since no law says that a field's `clone` answers the same element.
-impl<C: Checksum<SymbolField = S>, S: Field> Clone for CheckSymbols<C, S> {
-    ghost is_clone = { λ s r. r ≡ s };
-
-    ghost is_infallible = { λ _. ⊤ };
-
-    fn clone(&self) -> Result<Self, AllocError> {
-        Ok(CheckSymbols {
-            symbols: self.symbols,
-            code: PhantomData,
-        })
-    }
-}
-
-impl<C: Checksum<SymbolField = S>, S: Field> CheckSymbols<C, S> {
-    // Of the k symbols as they are written.
-    fn of_symbols(written: &[S]) -> Self
-        requires { length written.now ≡ checks C.code }
-        ensures { result ≡ written.now }
-    {
-        C::laws();
-        let mut symbols = [S::ZERO; 16];
-        symbols[..written.len()].copy_from_slice(written);
-        CheckSymbols {
-            symbols,
-            code: PhantomData,
-        }
-    }
-
-    pub fn symbols(&self) -> &[S]
+impl<C: Checksum> CheckSymbols<C> {
+    pub fn symbols(&self) -> &[C::SymbolField]
         ensures symbols { result.now ≡ self.now }
         ensures as_many { length result.now ≡ checks C.code }
     {
         C::laws();
         &self.symbols[..C::CHECKSUM_LENGTH]
+    }
+
+    /// The k symbols with ZEROs past them, as an array, which can be copied.
+    pub fn padded(&self) -> [C::SymbolField; 16]
+        ensures { result ≡ self.now ++ replicate (16 - length self.now) C.SymbolField.field.𝟘 }
+    {
+        C::laws();
+        let mut symbols = [C::SymbolField::ZERO; 16];
+        symbols[..C::CHECKSUM_LENGTH].copy_from_slice(self.symbols());
+        symbols
     }
 }
 

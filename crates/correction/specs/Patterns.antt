@@ -22,7 +22,7 @@ pub record IsPattern (p : Inside) : Type 0 where
 abbrev pub pattern_memory : List Record → Inside
 pattern_memory records = record { records = records ++ replicate (16 - length records) blank_record; len = length records }
 
--- there was room for it; or none where there is no room, and then nothing has changed
+-- one record more, where there was room for it; else none, and nothing has changed
 abbrev pub Pushes : Record → List Record → Option (Unit {0}) → List Record → Type 0
 Pushes new before None after = (length before ≡ 16) × (after ≡ before)
 Pushes new before (Some _) after = (length before < 16) × (after ≡ before ++ new ∷ [])
